@@ -1,0 +1,4 @@
+pub mod Outside
+pub mod Text
+pub mod Number
+pub mod Ethernet
