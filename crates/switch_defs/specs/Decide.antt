@@ -1,12 +1,15 @@
 -- What is authorised, and what is decided on a data frame.
-use Rattle.std.specs.Prelude.{ℕ, ◌==◌, nat_lt, if◌then◌else◌, List, length, Option, None, Some}
+use Rattle.std.specs.Prelude.{ℕ, ◌==◌, if◌then◌else◌, List, Option, None, Some, Result, Ok, Err}
 use Rattle.machine_vars.specs.declared.control.Control.{Control}
 use Rattle.machine_vars.specs.declared.control.Control.TheVariants.{Auto, ForceAuth, ForceUnauth}
-use Rattle.wire_defs.specs.Ethernet.{destination, source, kind, is_group, is_reserved, eapol_kind, tag_kind}
+use Rattle.wire_defs.specs.declared.EthDrop.{EthDrop}
+use Rattle.wire_defs.specs.declared.EthDrop.TheVariants.{Runt as IsRunt, Giant as IsGiant}
+use Rattle.wire_defs.specs.Ethernet.{Frame, eth_of, source, is_group, is_reserved, eapol_kind, tag_kind}
 use Rattle.switch_defs.specs.declared.Decision.{Decision}
 use Rattle.switch_defs.specs.declared.Decision.TheVariants.{Forward, Drop}
 use Rattle.switch_defs.specs.declared.Drop9.TheVariants.{Runt, Giant, Control as IsControl, Reserved, Tagged, GroupSource, Down, Closed, Unauthorised}
-use Rattle.switch_defs.specs.Switch.{Port, State, port_of}
+use Rattle.switch_defs.specs.declared.Port.{Port}
+use Rattle.switch_defs.specs.Switch.{State, port_of}
 
 -- a session's number and VLAN
 pub record Right : Type 0 where
@@ -30,16 +33,19 @@ abbrev pub by_port : Option Port → Option Right → Decision
 by_port None r = Drop Down
 by_port (Some p) r = if p.link then by_control p.conf.control p.conf.native r else Drop Down
 
--- the first line that applies, by what is known of the port and of the source
-abbrev pub decide_by : List ℕ → Option Port → Option Right → Decision
-decide_by frame p r =
-    if nat_lt (length frame) 14 then Drop Runt
-    else if nat_lt 1518 (length frame) then Drop Giant
-    else if kind frame == eapol_kind then Drop IsControl
-    else if is_reserved (destination frame) then Drop Reserved
-    else if kind frame == tag_kind then Drop Tagged
-    else if is_group (source frame) then Drop GroupSource
+-- the first line that applies, by the fields of a frame and by what is known of the port and of the source
+abbrev pub by_fields : Frame → Option Port → Option Right → Decision
+by_fields frame p r =
+    if frame.kind == eapol_kind then Drop IsControl
+    else if is_reserved frame.to then Drop Reserved
+    else if frame.kind == tag_kind then Drop Tagged
+    else if is_group frame.source then Drop GroupSource
     else by_port p r
 
+abbrev pub by_frame : Result Frame EthDrop → Option Port → Option Right → Decision
+by_frame (Err IsRunt) p r = Drop Runt
+by_frame (Err IsGiant) p r = Drop Giant
+by_frame (Ok frame) p r = by_fields frame p r
+
 abbrev pub decide : State → ℕ → List ℕ → Decision
-decide s port frame = decide_by frame (port_of port s) (authorised s port (source frame))
+decide s port octets = by_frame (eth_of octets) (port_of port s) (authorised s port (source octets))

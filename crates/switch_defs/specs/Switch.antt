@@ -3,6 +3,7 @@ use Rattle.std.specs.Prelude.{ℕ, ◌==◌, Bool, false, List, [], ◌∷◌, �
 use Rattle.wire_defs.specs.Ethernet.{eapol_kind, plain_text}
 use Rattle.wire_defs.specs.Eapol.{eapol_text}
 use Rattle.switch_defs.specs.declared.PortConf.{PortConf}
+use Rattle.switch_defs.specs.declared.Port.{Port}
 use Rattle.switch_defs.specs.declared.Outcome.{Outcome}
 
 -- an address and a port of UDP
@@ -25,10 +26,6 @@ empty = record {
   secret = [];
   ports = [];
 }
-
-pub record Port : Type 0 where
-  pub conf : PortConf
-  pub link : Bool
 
 pub record State : Type 0 where
   pub config : Config

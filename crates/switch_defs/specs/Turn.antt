@@ -6,7 +6,8 @@ use Rattle.wire_defs.specs.Ethernet.{pae_group}
 use Rattle.wire_defs.specs.Eap.{identity_request, canned}
 use Rattle.switch_defs.specs.declared.PortConf.{PortConf}
 use Rattle.switch_defs.specs.declared.Outcome.TheVariants.{Done}
-use Rattle.switch_defs.specs.Switch.{Config, Port, State, Event, Sent, Turned, Link, ToHost, port_of, port_address, eap_frame}
+use Rattle.switch_defs.specs.declared.Port.{Port}
+use Rattle.switch_defs.specs.Switch.{Config, State, Event, Sent, Turned, Link, ToHost, port_of, port_address, eap_frame}
 
 -- nothing changes, and nothing is sent
 abbrev pub still : State → Turned

@@ -15,6 +15,26 @@ pub struct PortConf {
     pub control: Control,
 }
 
+/// Port 1 with VLAN 1, where authentication decides.
+impl Default for PortConf {
+    fn default() -> Self {
+        PortConf {
+            port: 1,
+            native: 1,
+            control: Control::Auto,
+        }
+    }
+}
+
+/// A configured port as it stands.
+#[derive(Clone, Copy, Debug, PartialEq, Eq)]
+pub struct Port {
+    /// Its settings.
+    pub conf: PortConf,
+    /// Whether its link is up.
+    pub link: bool,
+}
+
 /// What became of a control event.
 #[derive(Clone, Copy, Debug, PartialEq, Eq)]
 pub enum Outcome {

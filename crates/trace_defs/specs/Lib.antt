@@ -2,3 +2,4 @@ pub mod Line
 pub mod Trace
 pub mod Reading
 pub mod Output
+pub mod Status

@@ -1,6 +1,6 @@
 -- What a line of a trace means.
-use Rattle.std.specs.Prelude.{ℕ, ◌==◌, ◌&&◌, ◌^◌, nat_le, Bool, true, false, not, if◌then◌else◌, List, [], ◌∷◌, ◌++◌, length, Option, Some, None, Result, Ok, Err, codes, bit_and, bit_or, find, is_some}
-use Rattle.std.specs.List.{list_all, slice_split}
+use Rattle.std.specs.Prelude.{ℕ, ◌==◌, ◌&&◌, ◌^◌, nat_le, Bool, true, false, not, if◌then◌else◌, List, [], ◌∷◌, ◌++◌, length, Option, Some, None, Result, Ok, Err, codes, bit_and, bit_or}
+use Rattle.std.specs.List.{list_all, list_any, slice_split}
 use Rattle.std.specs.Str.Lines.{strip_carriage_return}
 use Rattle.std.specs.Str.{bytes_eq}
 use Rattle.hex.specs.Hex.{decode_of}
@@ -106,7 +106,7 @@ abbrev pub server_setting : ℕ
 server_setting = 2
 
 abbrev pub has_port : ℕ → Config → Bool
-has_port n config = is_some (find (λ p. p.port == n) config.ports)
+has_port n config = list_any (λ p. p.port == n) config.ports
 
 -- `server IP PORT SECRET`, with a secret of 1 to 64 octets
 abbrev pub server_set : Config → ℕ → Addr → List ℕ → Result Line ℕ

@@ -1,0 +1,10 @@
+//! The outside of the switch as traits, in memory and over the streams of the host.
+#![tactic(auto)]
+
+mod host;
+mod memory;
+mod outside;
+
+pub use host::{StandardStream, StdSink, StdSource};
+pub use memory::{MemSink, MemSource};
+pub use outside::{Failed, Sink, Source};

@@ -1,0 +1,5 @@
+mod FateLemmas
+mod PortLemmas
+mod RecordLemmas
+mod StepLemmas
+mod TopLemmas

@@ -1,0 +1,48 @@
+// What is said of a status on standard error.
+ghost use Rattle.std.specs.Prelude.{◌≡◌, ◌≢◌, ◌+◌, ◌≤◌, ◌++◌, [], ◌∷◌, length, codes};
+ghost use Rattle.trace_defs.specs.Status.{refusal_text, status_text, reason_name as reason_name_lem};
+
+use arrayvec::ArrayVec;
+
+/// What is said of a status other than 3: nothing of 0, else its name and a line feed.
+pub fn status_words(status: u8) -> &'static [u8]
+    ensures { result.now ≡ status_text status }
+{
+    match status {
+        1 => b"out of memory\n",
+        2 => b"usage\n",
+        4 => b"read fault\n",
+        5 => b"write fault\n",
+        6 => b"full: 1048576\n",
+        8 => b"too long: 67108864\n",
+        _ => b"",
+    }
+}
+
+/// What is said of a line that was refused: its number, the name of the reason, and a line feed.
+pub fn refusal(line: u64, why: u8) -> ArrayVec<u8, 64>
+    ensures { result.items ≡ refusal_text line why }
+{
+    let mut digits = itoa::Buffer::new();
+    let mut out = ArrayVec::new();
+    append(&mut out, b"line ");
+    append(&mut out, digits.format(line).as_bytes());
+    append(&mut out, b": ");
+    append(&mut out, reason_name(why));
+    append(&mut out, b"\n");
+    out
+}
+
+fn reason_name(why: u8) -> &'static [u8]
+    ensures name { result.now ≡ reason_name_lem why }
+    ensures short { length result.now ≤ 16 }
+{
+    if why == 14 { b"unbuilt" } else { b"" }
+}
+
+fn append(out: &mut ArrayVec<u8, 64>, piece: &[u8])
+    requires { length out.old.items + length piece.now ≤ 64 }
+    ensures { out.new.items ≡ out.old.items ++ piece.now }
+{
+    let _fits = out.try_extend_from_slice(piece);
+}

@@ -1,0 +1,78 @@
+-- What the types of this crate mean, and what its readers answer.
+use Rattle.std.specs.Prelude.{◌≡◌, ℕ, nat_eq, ◌&&◌, nat_le, Bool, true, false, List, map, Option, Some, None, Result, Ok, Err, ⊤}
+use Rattle.std.specs.List.{list_all, IsDistinct}
+use Rattle.switch_defs.specs.declared.PortConf.{PortConf}
+use Rattle.switch_defs.specs.Switch.{Config, Event}
+use Rattle.switch_defs.specs.Switch.Event.{Link as LinkEvent}
+use Rattle.trace_defs.specs.Line.{unbuilt, Line as Meaning}
+use Rattle.trace_defs.specs.Line.Line.{Blank as IsBlank, Begin as IsBegin, Sync as IsSync, Setting as IsSetting, Entry}
+use Rattle.trace_defs.specs.Line.Record.{Control as ControlEntry, Data as DataEntry}
+use Rattle.trace_lang.specs.declared.line.Line.{Line}
+use Rattle.trace_lang.specs.declared.line.Line.TheVariants.{Blank, Begin, Sync, Setting, Control, Data}
+use Rattle.trace_lang.specs.declared.line.LineErr.{LineErr}
+use Rattle.trace_lang.specs.declared.line.LineErr.TheVariants.{Bad, NoMemory}
+use Rattle.trace_lang.specs.declared.line.Record.{Record}
+use Rattle.trace_lang.specs.declared.line.Record.TheVariants.{Link}
+
+abbrev pub event_of : Record → Event
+event_of (Link port up) = LinkEvent port up
+
+-- a line, by the settings after it
+abbrev pub meaning : Config → ℕ → Line → Meaning
+meaning config given Blank = IsBlank
+meaning config given Begin = IsBegin
+meaning config given Sync = IsSync
+meaning config given Setting = IsSetting config given
+meaning config given (Control lane what) = Entry (ControlEntry lane (event_of what))
+meaning config given (Data port octets) = Entry (DataEntry port octets)
+
+-- a reader that sets nothing answers what the definition gives, but for want of memory
+abbrev pub Means : Result Meaning ℕ → Result Line LineErr → Type 0
+Means wanted (Ok Setting) = ⊥
+Means wanted (Ok Blank) = wanted ≡ Ok IsBlank
+Means wanted (Ok Begin) = wanted ≡ Ok IsBegin
+Means wanted (Ok Sync) = wanted ≡ Ok IsSync
+Means wanted (Ok (Control lane what)) = wanted ≡ Ok (Entry (ControlEntry lane (event_of what)))
+Means wanted (Ok (Data port octets)) = wanted ≡ Ok (Entry (DataEntry port octets))
+Means wanted (Err (Bad why)) = wanted ≡ Err why
+Means wanted (Err NoMemory) = ⊤
+
+-- the settings are as before
+pub record AreKept (old : Config) (given : ℕ) (new : Config) (given' : ℕ) : Type 0 where
+  pub same_config : new ≡ old
+  pub same_given : given' ≡ given
+
+-- a reader of any line: the settings change only where a setting was read
+abbrev pub Sets : Result Meaning ℕ → Config → ℕ → Config → ℕ → Result Line LineErr → Type 0
+Sets wanted old given new given' (Ok Setting) = wanted ≡ Ok (IsSetting new given')
+Sets wanted old given new given' (Ok Blank) = (wanted ≡ Ok IsBlank) × AreKept old given new given'
+Sets wanted old given new given' (Ok Begin) = (wanted ≡ Ok IsBegin) × AreKept old given new given'
+Sets wanted old given new given' (Ok Sync) = (wanted ≡ Ok IsSync) × AreKept old given new given'
+Sets wanted old given new given' (Ok (Control lane what)) = (wanted ≡ Ok (Entry (ControlEntry lane (event_of what)))) × AreKept old given new given'
+Sets wanted old given new given' (Ok (Data port octets)) = (wanted ≡ Ok (Entry (DataEntry port octets))) × AreKept old given new given'
+Sets wanted old given new given' (Err (Bad why)) = (wanted ≡ Err why) × AreKept old given new given'
+Sets wanted old given new given' (Err NoMemory) = AreKept old given new given'
+
+-- octets that a word writes
+abbrev pub Decodes : Option (List ℕ) → Result (List ℕ) LineErr → Type 0
+Decodes wanted (Ok octets) = wanted ≡ Some octets
+Decodes wanted (Err (Bad why)) = (wanted ≡ None) × (why ≡ unbuilt)
+Decodes wanted (Err NoMemory) = ⊤
+
+-- settings and `begin` stand before `begin`, records and `sync` after it
+abbrev pub IsInPlace : (begun : Bool) → Line → Type 0
+IsInPlace begun Blank = ⊤
+IsInPlace begun Begin = begun ≡ false
+IsInPlace begun Setting = begun ≡ false
+IsInPlace begun Sync = begun ≡ true
+IsInPlace begun (Control lane what) = begun ≡ true
+IsInPlace begun (Data port octets) = begun ≡ true
+
+-- the ports of settings are 1 to 60, and no two are the same
+pub record ArePorts (ports : List PortConf) : Type 0 where
+  pub in_range : list_all (λ p. nat_le 1 p.port && nat_le p.port 60) ports ≡ true
+  pub apart : IsDistinct nat_eq (map (λ p. p.port) ports)
+
+-- the VLANs of ports are 1 to 4094
+abbrev pub HaveVlans : List PortConf → Type 0
+HaveVlans ports = list_all (λ p. nat_le 1 p.native && nat_le p.native 4094) ports ≡ true
