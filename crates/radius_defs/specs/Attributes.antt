@@ -1,9 +1,8 @@
 -- What the attributes of a packet say: numbers, the VLAN, the session's time, and which may stand in a dynamic request.
 use Rattle.std.specs.Prelude.{ℕ, ◌+◌, ◌*◌, ◌==◌, ◌&&◌, ◌||◌, nat_le, Bool, false, if◌then◌else◌, List, [], ◌∷◌, length, slice_index, Option, Some, None}
-use Rattle.std.specs.Int.{w32, from_be_bytes}
 use Rattle.std.specs.List.{list_any}
 use Rattle.std.specs.Option.{option_and_then}
-use Rattle.wire_defs.specs.Number.{number_in}
+use Rattle.wire_defs.specs.Number.{pair, quad, number_in}
 use Rattle.radius_defs.specs.declared.Tunnel.{Tunnel}
 use Rattle.radius_defs.specs.declared.Tunnel.TheVariants.{Absent, Partial, Bad, Vlan}
 use Rattle.radius_defs.specs.declared.Timeout.{Timeout}
@@ -12,11 +11,11 @@ use Rattle.radius_defs.specs.Packet.{Attribute, first_value}
 
 -- four octets as a number, the most significant first (RFC 2865, section 5)
 abbrev pub number_of : List ℕ → Option ℕ
-number_of value = if length value == 4 then Some (from_be_bytes w32 value) else None
+number_of value = if length value == 4 then Some (quad value 0) else None
 
 -- four octets: a tag, and this number in the last three (RFC 2868, sections 3.1 and 3.2)
 abbrev pub is_tagged : ℕ → List ℕ → Bool
-is_tagged n value = length value == 4 && 65536 * slice_index value 1 + 256 * slice_index value 2 + slice_index value 3 == n
+is_tagged n value = length value == 4 && 65536 * slice_index value 1 + pair value 2 == n
 
 -- a text without its tag, a first octet of 0x00 to 0x1F (RFC 2868, section 3.6)
 abbrev pub without_tag : List ℕ → List ℕ

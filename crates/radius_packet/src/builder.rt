@@ -5,10 +5,7 @@ ghost use Rattle.radius_defs.specs.Packet.{Packet as Parts, Attribute, attribute
 
 use arrayvec::ArrayVec;
 use std::marker::Model;
-
-/// There is no room: the value has more than 253 octets, or the packet would pass 4,096.
-#[derive(Clone, Copy, Debug, PartialEq, Eq)]
-pub struct Room;
+use wire_core::Room;
 
 /// A packet that is being built. Its octets are a whole packet at each moment. Contracts see its
 /// code, identifier, authenticator and list of attributes.
