@@ -1,0 +1,6 @@
+pub mod Packet
+pub mod Reading
+pub mod Digest
+pub mod Attributes
+pub mod Message
+pub mod Grant

@@ -1,0 +1,105 @@
+//! Packets that are built, one attribute after another.
+ghost use Rattle.std.specs.Prelude.{◌≡◌, ◌+◌, ◌≤◌, ◌<◌, ◌↔◌, ◌++◌, ◌∷◌, [], List, length, IsOk, OnOk, OnErr, Ok};
+ghost use Rattle.arrayvec.specs.ArrayVec.{array_vec_len};
+ghost use Rattle.radius_defs.specs.Packet.{Packet as Parts, Attribute, attributes_text, packet_text, Fits, HasValueAt, PacketOf, written_over};
+
+use arrayvec::ArrayVec;
+use std::marker::Model;
+use wire_core::Room;
+
+/// A packet that is being built. Its octets are a whole packet at each moment. Contracts see its
+/// code, identifier, authenticator and list of attributes.
+#[derive(Drop)]
+pub struct Builder {
+    octets: ArrayVec<u8, 4096>,
+}
+
+impl Model for Builder {
+    ghost use Rattle.radius_defs.specs.Packet.{Packet as Fields};
+
+    ghost Value = { Fields };
+
+    ghost use Rattle.radius_defs.specs.Packet.{packet_text, Fits};
+    ghost use Rattle.radius_defs.specs.Reading.{packet_in, IsText};
+
+    ghost view = { λ b. packet_in b.octets.items };
+
+    ghost invariant = { λ b. IsText b.octets.items };
+}
+
+impl Builder {
+    /// A packet with no attribute.
+    pub fn new(code: u8, id: u8, auth: [u8; 16]) -> Builder
+        ensures { result ≡ record { code = code; identifier = id; authenticator = auth; attributes = [] } }
+    {
+        let mut octets = ArrayVec::new();
+        append(&mut octets, &[code, id, 0, 20]);
+        append(&mut octets, &auth);
+        Builder { octets }
+    }
+
+    /// Puts an attribute at the end. Room where its value has more than 253 octets or the packet
+    /// would pass 4,096; the packet is as before then.
+    pub fn put(&mut self, ty: u8, value: &[u8]) -> Result<(), Room>
+        ensures variant { IsOk result ↔ (length value.now ≤ 253) × (length (packet_text self.old) + 2 + length value.now ≤ 4096) }
+        ensures ok { OnOk result (self.new ≡ record self.old { attributes = self.old.attributes ++ record { kind = ty; value = value.now } ∷ [] }) }
+        ensures err { OnErr result (self.new ≡ self.old) }
+    {
+        let length = self.octets.len() + 2 + value.len();
+        if value.len() > 253 || length > 4096 {
+            return Err(Room);
+        }
+        append(&mut self.octets, &[ty, value.len() as u8 + 2]);
+        append(&mut self.octets, value);
+        overwrite(
+            &mut self.octets,
+            2,
+            &[(length / 256) as u8, (length % 256) as u8],
+        );
+        Ok(())
+    }
+
+    /// Writes another authenticator.
+    pub fn set_auth(&mut self, auth: [u8; 16])
+        ensures { self.new ≡ record self.old { authenticator = auth } }
+    {
+        overwrite(&mut self.octets, 4, &auth);
+    }
+
+    /// Writes another value of 16 octets, where the value of an attribute of 16 octets stands: `at`
+    /// is the place of that value, counted from the packet's first octet.
+    pub fn set_value16(&mut self, at: usize, value: [u8; 16])
+        requires { HasValueAt self.old.attributes at }
+        ensures { (front rest : List Attribute) (a : Attribute) → self.old.attributes ≡ front ++ a ∷ rest
+            → at ≡ 22 + length (attributes_text front) → length a.value ≡ 16
+            → self.new ≡ record self.old { attributes = front ++ record { kind = a.kind; value = value } ∷ rest } }
+    {
+        overwrite(&mut self.octets, at, &value);
+    }
+
+    /// The octets of the packet.
+    pub fn octets(&self) -> &[u8]
+        ensures text { result.now ≡ packet_text self.now }
+        ensures fits { Fits self.now }
+        ensures read { PacketOf result.now (Ok self.now) }
+    {
+        self.octets.as_slice()
+    }
+}
+
+// Appends octets for which there is room.
+pub(crate) fn append(out: &mut ArrayVec<u8, 4096>, octets: &[u8])
+    requires { array_vec_len out.old + length octets.now ≤ 4096 }
+    ensures { out.new.items ≡ out.old.items ++ octets.now }
+{
+    let _ = out.try_extend_from_slice(octets);
+}
+
+// Writes octets over those that stand from `at` on.
+fn overwrite(out: &mut ArrayVec<u8, 4096>, at: usize, piece: &[u8])
+    requires { at + length piece.now ≤ array_vec_len out.old }
+    ensures { out.new.items ≡ written_over out.old.items at piece.now }
+{
+    let octets = out.as_mut_slice();
+    octets[at..at + piece.len()].copy_from_slice(piece);
+}
