@@ -8,3 +8,6 @@ mod outside;
 pub use host::{StandardStream, StdSink, StdSource};
 pub use memory::{MemSink, MemSource};
 pub use outside::{Failed, Sink, Source};
+
+#[cfg(test)]
+mod tests;

@@ -12,7 +12,8 @@ use machine_vars::Control;
 use switch_defs::{Decision, Drop9, Port};
 use wire_core::Mac;
 
-const PAE_GROUP: [u8; 6] = [0x01, 0x80, 0xc2, 0x00, 0x00, 0x03];
+// The first five octets of the sixteen addresses that no bridge forwards.
+const RESERVED: [u8; 5] = [0x01, 0x80, 0xc2, 0x00, 0x00];
 
 const EAPOL: u16 = 0x888e;
 
@@ -81,7 +82,7 @@ fn by_port(port: Option<Port>) -> Decision
 fn is_reserved(address: Mac) -> bool
     ensures { result ≡ is_reserved_lem address.0 }
 {
-    address.0[..5] == PAE_GROUP[..5] && address.0[5] < 16
+    address.0[..5] == RESERVED[..] && address.0[5] < 16
 }
 
 fn is_group(address: Mac) -> bool

@@ -1,11 +1,12 @@
 // The frame that a port sends as its link comes up.
-ghost use Rattle.std.specs.Prelude.{◌≡◌, ◌≤◌, length};
+ghost use Rattle.std.specs.Prelude.{◌≡◌};
 ghost use Rattle.wire_defs.specs.Ethernet.{pae_group};
 ghost use Rattle.wire_defs.specs.Eapol.{eapol_text};
 ghost use Rattle.switch_defs.specs.Switch.{eap_frame, port_address as port_address_lem};
 ghost use Rattle.switch_defs.specs.Turn.{greeting};
 
 use arrayvec::ArrayVec;
+use eap_packet::{canned, identity_request};
 use eth_frame::write_plain;
 use machine_vars::Control;
 use switch_defs::PortConf;
@@ -21,11 +22,13 @@ const EAPOL: u16 = 0x888e;
 pub fn write_greeting(config: &Config, conf: &PortConf, out: &mut ArrayVec<u8, 1518>)
     ensures { out.new.items ≡ eap_frame pae_group (port_address_lem config.now.bridge conf.now.port) (greeting conf.now.control) }
 {
+    let mut body = ArrayVec::new();
+    write_body(conf.control, &mut body);
     write_plain(
         Mac(PAE_GROUP),
         port_address(config.bridge, conf.port),
         EAPOL,
-        greeting_body(conf.control),
+        body.as_slice(),
         out,
     );
 }
@@ -37,13 +40,12 @@ fn port_address(bridge: Mac, port: u8) -> Mac
     Mac([a, b, c, d, e, port])
 }
 
-fn greeting_body(control: Control) -> &'static [u8]
-    ensures value { result.now ≡ eapol_text (greeting control) }
-    ensures short { length result.now ≤ 9 }
+fn write_body(control: Control, out: &mut ArrayVec<u8, 1504>)
+    ensures { out.new.items ≡ eapol_text (greeting control) }
 {
     match control {
-        Control::Auto => &[2, 0, 0, 5, 1, 0, 0, 5, 1],
-        Control::ForceAuth => &[2, 0, 0, 4, 3, 0, 0, 4],
-        Control::ForceUnauth => &[2, 0, 0, 4, 4, 0, 0, 4],
+        Control::Auto => eapol_frame::write(&identity_request(0), out),
+        Control::ForceAuth => eapol_frame::write(&canned(true, 0), out),
+        Control::ForceUnauth => eapol_frame::write(&canned(false, 0), out),
     }
 }

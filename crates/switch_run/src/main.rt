@@ -9,6 +9,8 @@ mod ports;
 mod refusal;
 mod run;
 mod streams;
+#[cfg(test)]
+mod tests;
 mod top;
 
 use outside_core::{StandardStream, StdSink, StdSource};

@@ -1,6 +1,7 @@
 ghost use Rattle.std.specs.Prelude.{◌≡◌};
 ghost use Rattle.switch_defs.specs.Switch.{empty};
 ghost use Rattle.trace_defs.specs.Line.{has_port};
+ghost use Rattle.trace_lang.specs.Meaning.{ArePorts, HaveVlans};
 
 use arrayvec::ArrayVec;
 use std::marker::Model;
@@ -32,7 +33,9 @@ impl Config {
     /// The settings before the first line: the bridge address 02-00-00-01-01-00, the server address 0.0.0.0 with port 0,
     /// an empty secret and no port.
     pub fn empty() -> Config
-        ensures { result ≡ empty }
+        ensures value { result ≡ empty }
+        ensures ports { ArePorts result.ports }
+        ensures vlans { HaveVlans result.ports }
     {
         Config {
             bridge: Mac([2, 0, 0, 1, 1, 0]),

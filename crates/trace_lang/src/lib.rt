@@ -13,3 +13,6 @@ pub use line::{Line, LineErr, Record, read_line};
 pub use octets::Octets;
 pub use print::{Decided, print_control, print_data};
 pub use switch_defs::{Decision, Drop9, Outcome, PortConf};
+
+#[cfg(test)]
+mod tests;

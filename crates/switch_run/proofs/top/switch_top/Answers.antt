@@ -1,15 +1,9 @@
 use Rattle.std.proofs.Common.{refl, sym, subst}
-use Rattle.std.specs.List.{IsDistinct}
 use Rattle.switch_defs.specs.Switch.{empty}
-use Rattle.trace_lang.specs.Meaning.{ArePorts}
 use Rattle.switch_run.specs.Top.{IsStatus}
 use Rattle.switch_run.specs.declared.top.TheConstants.{MOST_OCTETS, MOST_CONTROLS}
 use Rattle.switch_run.proofs.TopLemmas.{ends_by_text, fate_by_text, output_by_text, said_of, refused_of, is_status}
 use Rattle.switch_run.proofs.top.switch_top.Goals as goal
-
-pub replay_within-ending-requires-clause-ports : goal.replay_within-ending-requires-clause-ports
-unfolding IsDistinct
-replay_within-ending-requires-clause-ports g c = subst (λ config. ArePorts config.ports) (sym c.empty.ensures) (record { in_range = refl; apart = tt })
 
 pub returns-clause-statuses : goal.returns-clause-statuses
 returns-clause-statuses g c = subst IsStatus (sym c.status.ensures) (is_status c.replay_within-ending.result)
@@ -17,16 +11,16 @@ returns-clause-statuses g c = subst IsStatus (sym c.status.ensures) (is_status c
 pub returns-clause-status : goal.returns-clause-status
 returns-clause-status g c = λ s.
     fate_by_text MOST_OCTETS MOST_CONTROLS empty _ _ _ _
-    (ends_by_text MOST_OCTETS MOST_CONTROLS _ empty _ _ _ _ c.replay_within-ending.result _ c.replay_within-ending.ensures.ends c.empty.ensures c.status.ensures s)
+    (ends_by_text MOST_OCTETS MOST_CONTROLS _ empty _ _ _ _ c.replay_within-ending.result _ c.replay_within-ending.ensures.ends c.empty.ensures.value c.status.ensures s)
 
 pub returns-clause-output : goal.returns-clause-output
 returns-clause-output g c = λ s.
     output_by_text MOST_OCTETS MOST_CONTROLS empty _ _ _ _
-    (ends_by_text MOST_OCTETS MOST_CONTROLS _ empty _ _ _ _ c.replay_within-ending.result _ c.replay_within-ending.ensures.ends c.empty.ensures c.status.ensures s)
+    (ends_by_text MOST_OCTETS MOST_CONTROLS _ empty _ _ _ _ c.replay_within-ending.result _ c.replay_within-ending.ensures.ends c.empty.ensures.value c.status.ensures s)
 
 pub returns-clause-said : goal.returns-clause-said
 returns-clause-said g c = λ other. said_of _ _ _ _ c.replay_within-ending.result _ c.say_ending.ensures.said c.status.ensures other
 
 pub returns-clause-refused : goal.returns-clause-refused
 returns-clause-refused g c = λ three.
-    refused_of MOST_OCTETS MOST_CONTROLS _ empty _ _ _ _ _ _ _ _ c.replay_within-ending.result _ c.replay_within-ending.ensures.ends c.empty.ensures c.say_ending.ensures.said c.status.ensures three
+    refused_of MOST_OCTETS MOST_CONTROLS _ empty _ _ _ _ _ _ _ _ c.replay_within-ending.result _ c.replay_within-ending.ensures.ends c.empty.ensures.value c.say_ending.ensures.said c.status.ensures three
