@@ -1,0 +1,5 @@
+mod Examples
+pub mod NumberLemmas
+pub mod EthernetLemmas
+pub mod EapolLemmas
+pub mod EapLemmas

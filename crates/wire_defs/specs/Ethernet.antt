@@ -1,5 +1,5 @@
 -- Ethernet frames (IEEE Std 802.3, 3.1.1): destination, source, type and body, without a frame check sequence.
-use Rattle.std.specs.Prelude.{ℕ, ◌%◌, ◌<◌, ◌≤◌, ◌==◌, ◌≡◌, ◌&&◌, nat_lt, nat_le, Bool, List, [], ◌∷◌, ◌++◌, length, take, drop, slice_index, Result, Ok, Err}
+use Rattle.std.specs.Prelude.{ℕ, ◌%◌, ◌<◌, ◌≤◌, ◌==◌, ◌≡◌, ◌&&◌, nat_lt, nat_le, Bool, if◌then◌else◌, List, [], ◌∷◌, ◌++◌, length, take, drop, slice_index, Result, Ok, Err}
 use Rattle.std.specs.Str.{bytes_eq}
 use Rattle.wire_defs.specs.declared.EthDrop.{EthDrop}
 use Rattle.wire_defs.specs.declared.EthDrop.TheVariants.{Runt, Giant}
@@ -23,7 +23,7 @@ EthOf octets (Err Runt) = length octets < 14
 EthOf octets (Err Giant) = 1518 < length octets
 EthOf octets (Ok frame) = (14 ≤ length octets) × (length octets ≤ 1518) × IsFrame octets frame
 
--- the fields of octets that are a frame
+-- the fields of octets that are a frame, by their places
 abbrev pub destination : List ℕ → List ℕ
 destination octets = take 6 octets
 
@@ -32,6 +32,13 @@ source octets = take 6 (drop 6 octets)
 
 abbrev pub kind : List ℕ → ℕ
 kind octets = pair octets 12
+
+abbrev pub frame_of : List ℕ → Frame
+frame_of octets = record { to = destination octets; source = source octets; kind = kind octets; body = drop 14 octets }
+
+-- the first line that applies, or the fields, as a function
+abbrev pub eth_of : List ℕ → Result Frame EthDrop
+eth_of octets = if nat_lt (length octets) 14 then Err Runt else if nat_lt 1518 (length octets) then Err Giant else Ok (frame_of octets)
 
 -- the type of EAPOL (IEEE Std 802.1X-2004, 7.2): 88-8E
 abbrev pub eapol_kind : ℕ
