@@ -9,7 +9,7 @@ use machine_vars::{EapState, Vars};
 fn next_id(id: u8) -> u8
     ensures { result ≡ next_id id }
 {
-    if id == 255 { 0 } else { id + 1 }
+    id.wrapping_add(1)
 }
 
 pub(crate) fn enter_start(v: &mut Vars)

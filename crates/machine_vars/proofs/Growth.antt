@@ -14,6 +14,9 @@ pub record Grows (l : Line) : Type 0 where
   pub tries : (v : Vars) → (l.after v).re_auth_count ≤ v.re_auth_count + 1
   pub again : (v : Vars) → (l.after v).retrans_count ≤ v.retrans_count + 1
   pub times : (v : Vars) → (l.after v).times ≡ v.times
+  pub port : (v : Vars) → (l.after v).port ≡ v.port
+  pub own : (v : Vars) → (l.after v).own ≡ v.own
+  pub peer : (v : Vars) → (l.after v).peer ≡ v.peer
   pub packet : (v : Vars) → (l.after v).aaa_eap_req_data ≡ v.aaa_eap_req_data
   pub asked : (v : Vars) → (l.after v).aaa_eap_req ≡ true → v.aaa_eap_req ≡ true
 
@@ -27,40 +30,40 @@ each_append Q (x ∷ xs) ys p q = (p.0, each_append Q xs ys p.1 q)
 
 same_pae : Each Grows pae_table
 same_pae = (
-  record { tries = λ v. omega arith; again = λ v. omega arith; times = λ v. refl; packet = λ v. refl; asked = λ v h. h },
+  record { tries = λ v. omega arith; again = λ v. omega arith; times = λ v. refl; port = λ v. refl; own = λ v. refl; peer = λ v. refl; packet = λ v. refl; asked = λ v h. h },
   (
-    record { tries = λ v. omega arith; again = λ v. omega arith; times = λ v. refl; packet = λ v. refl; asked = λ v h. h },
+    record { tries = λ v. omega arith; again = λ v. omega arith; times = λ v. refl; port = λ v. refl; own = λ v. refl; peer = λ v. refl; packet = λ v. refl; asked = λ v h. h },
     (
-      record { tries = λ v. omega arith; again = λ v. omega arith; times = λ v. refl; packet = λ v. refl; asked = λ v h. h },
+      record { tries = λ v. omega arith; again = λ v. omega arith; times = λ v. refl; port = λ v. refl; own = λ v. refl; peer = λ v. refl; packet = λ v. refl; asked = λ v h. h },
       (
-        record { tries = λ v. omega arith; again = λ v. omega arith; times = λ v. refl; packet = λ v. refl; asked = λ v h. h },
+        record { tries = λ v. omega arith; again = λ v. omega arith; times = λ v. refl; port = λ v. refl; own = λ v. refl; peer = λ v. refl; packet = λ v. refl; asked = λ v h. h },
         (
-          record { tries = λ v. omega arith; again = λ v. omega arith; times = λ v. refl; packet = λ v. refl; asked = λ v h. h },
+          record { tries = λ v. omega arith; again = λ v. omega arith; times = λ v. refl; port = λ v. refl; own = λ v. refl; peer = λ v. refl; packet = λ v. refl; asked = λ v h. h },
           (
-            record { tries = λ v. omega arith; again = λ v. omega arith; times = λ v. refl; packet = λ v. refl; asked = λ v h. h },
+            record { tries = λ v. omega arith; again = λ v. omega arith; times = λ v. refl; port = λ v. refl; own = λ v. refl; peer = λ v. refl; packet = λ v. refl; asked = λ v h. h },
             (
-              record { tries = λ v. omega arith; again = λ v. omega arith; times = λ v. refl; packet = λ v. refl; asked = λ v h. h },
+              record { tries = λ v. omega arith; again = λ v. omega arith; times = λ v. refl; port = λ v. refl; own = λ v. refl; peer = λ v. refl; packet = λ v. refl; asked = λ v h. h },
               (
-                record { tries = λ v. omega arith; again = λ v. omega arith; times = λ v. refl; packet = λ v. refl; asked = λ v h. h },
+                record { tries = λ v. omega arith; again = λ v. omega arith; times = λ v. refl; port = λ v. refl; own = λ v. refl; peer = λ v. refl; packet = λ v. refl; asked = λ v h. h },
                 (
-                  record { tries = λ v. omega arith; again = λ v. omega arith; times = λ v. refl; packet = λ v. refl; asked = λ v h. h },
+                  record { tries = λ v. omega arith; again = λ v. omega arith; times = λ v. refl; port = λ v. refl; own = λ v. refl; peer = λ v. refl; packet = λ v. refl; asked = λ v h. h },
                   (
-                    record { tries = λ v. omega arith; again = λ v. omega arith; times = λ v. refl; packet = λ v. refl; asked = λ v h. h },
+                    record { tries = λ v. omega arith; again = λ v. omega arith; times = λ v. refl; port = λ v. refl; own = λ v. refl; peer = λ v. refl; packet = λ v. refl; asked = λ v h. h },
                     (
-                      record { tries = λ v. omega arith; again = λ v. omega arith; times = λ v. refl; packet = λ v. refl; asked = λ v h. h },
+                      record { tries = λ v. omega arith; again = λ v. omega arith; times = λ v. refl; port = λ v. refl; own = λ v. refl; peer = λ v. refl; packet = λ v. refl; asked = λ v h. h },
                       (
-                        record { tries = λ v. omega arith; again = λ v. omega arith; times = λ v. refl; packet = λ v. refl; asked = λ v h. h },
+                        record { tries = λ v. omega arith; again = λ v. omega arith; times = λ v. refl; port = λ v. refl; own = λ v. refl; peer = λ v. refl; packet = λ v. refl; asked = λ v h. h },
                         (
-                          record { tries = λ v. omega arith; again = λ v. omega arith; times = λ v. refl; packet = λ v. refl; asked = λ v h. h },
+                          record { tries = λ v. omega arith; again = λ v. omega arith; times = λ v. refl; port = λ v. refl; own = λ v. refl; peer = λ v. refl; packet = λ v. refl; asked = λ v h. h },
                           (
-                            record { tries = λ v. omega arith; again = λ v. omega arith; times = λ v. refl; packet = λ v. refl; asked = λ v h. h },
+                            record { tries = λ v. omega arith; again = λ v. omega arith; times = λ v. refl; port = λ v. refl; own = λ v. refl; peer = λ v. refl; packet = λ v. refl; asked = λ v h. h },
                             (
-                              record { tries = λ v. omega arith; again = λ v. omega arith; times = λ v. refl; packet = λ v. refl; asked = λ v h. h },
+                              record { tries = λ v. omega arith; again = λ v. omega arith; times = λ v. refl; port = λ v. refl; own = λ v. refl; peer = λ v. refl; packet = λ v. refl; asked = λ v h. h },
                               (
-                                record { tries = λ v. omega arith; again = λ v. omega arith; times = λ v. refl; packet = λ v. refl; asked = λ v h. h },
+                                record { tries = λ v. omega arith; again = λ v. omega arith; times = λ v. refl; port = λ v. refl; own = λ v. refl; peer = λ v. refl; packet = λ v. refl; asked = λ v h. h },
                                 (
-                                  record { tries = λ v. omega arith; again = λ v. omega arith; times = λ v. refl; packet = λ v. refl; asked = λ v h. h },
-                                  (record { tries = λ v. omega arith; again = λ v. omega arith; times = λ v. refl; packet = λ v. refl; asked = λ v h. h }, tt),
+                                  record { tries = λ v. omega arith; again = λ v. omega arith; times = λ v. refl; port = λ v. refl; own = λ v. refl; peer = λ v. refl; packet = λ v. refl; asked = λ v h. h },
+                                  (record { tries = λ v. omega arith; again = λ v. omega arith; times = λ v. refl; port = λ v. refl; own = λ v. refl; peer = λ v. refl; packet = λ v. refl; asked = λ v h. h }, tt),
                                 ),
                               ),
                             ),
@@ -81,32 +84,32 @@ same_pae = (
 
 same_backend : Each Grows backend_table
 same_backend = (
-  record { tries = λ v. omega arith; again = λ v. omega arith; times = λ v. refl; packet = λ v. refl; asked = λ v h. h },
+  record { tries = λ v. omega arith; again = λ v. omega arith; times = λ v. refl; port = λ v. refl; own = λ v. refl; peer = λ v. refl; packet = λ v. refl; asked = λ v h. h },
   (
-    record { tries = λ v. omega arith; again = λ v. omega arith; times = λ v. refl; packet = λ v. refl; asked = λ v h. h },
+    record { tries = λ v. omega arith; again = λ v. omega arith; times = λ v. refl; port = λ v. refl; own = λ v. refl; peer = λ v. refl; packet = λ v. refl; asked = λ v h. h },
     (
-      record { tries = λ v. omega arith; again = λ v. omega arith; times = λ v. refl; packet = λ v. refl; asked = λ v h. h },
+      record { tries = λ v. omega arith; again = λ v. omega arith; times = λ v. refl; port = λ v. refl; own = λ v. refl; peer = λ v. refl; packet = λ v. refl; asked = λ v h. h },
       (
-        record { tries = λ v. omega arith; again = λ v. omega arith; times = λ v. refl; packet = λ v. refl; asked = λ v h. h },
+        record { tries = λ v. omega arith; again = λ v. omega arith; times = λ v. refl; port = λ v. refl; own = λ v. refl; peer = λ v. refl; packet = λ v. refl; asked = λ v h. h },
         (
-          record { tries = λ v. omega arith; again = λ v. omega arith; times = λ v. refl; packet = λ v. refl; asked = λ v h. h },
+          record { tries = λ v. omega arith; again = λ v. omega arith; times = λ v. refl; port = λ v. refl; own = λ v. refl; peer = λ v. refl; packet = λ v. refl; asked = λ v h. h },
           (
-            record { tries = λ v. omega arith; again = λ v. omega arith; times = λ v. refl; packet = λ v. refl; asked = λ v h. h },
+            record { tries = λ v. omega arith; again = λ v. omega arith; times = λ v. refl; port = λ v. refl; own = λ v. refl; peer = λ v. refl; packet = λ v. refl; asked = λ v h. h },
             (
-              record { tries = λ v. omega arith; again = λ v. omega arith; times = λ v. refl; packet = λ v. refl; asked = λ v h. h },
+              record { tries = λ v. omega arith; again = λ v. omega arith; times = λ v. refl; port = λ v. refl; own = λ v. refl; peer = λ v. refl; packet = λ v. refl; asked = λ v h. h },
               (
-                record { tries = λ v. omega arith; again = λ v. omega arith; times = λ v. refl; packet = λ v. refl; asked = λ v h. h },
+                record { tries = λ v. omega arith; again = λ v. omega arith; times = λ v. refl; port = λ v. refl; own = λ v. refl; peer = λ v. refl; packet = λ v. refl; asked = λ v h. h },
                 (
-                  record { tries = λ v. omega arith; again = λ v. omega arith; times = λ v. refl; packet = λ v. refl; asked = λ v h. h },
+                  record { tries = λ v. omega arith; again = λ v. omega arith; times = λ v. refl; port = λ v. refl; own = λ v. refl; peer = λ v. refl; packet = λ v. refl; asked = λ v h. h },
                   (
-                    record { tries = λ v. omega arith; again = λ v. omega arith; times = λ v. refl; packet = λ v. refl; asked = λ v h. h },
+                    record { tries = λ v. omega arith; again = λ v. omega arith; times = λ v. refl; port = λ v. refl; own = λ v. refl; peer = λ v. refl; packet = λ v. refl; asked = λ v h. h },
                     (
-                      record { tries = λ v. omega arith; again = λ v. omega arith; times = λ v. refl; packet = λ v. refl; asked = λ v h. h },
+                      record { tries = λ v. omega arith; again = λ v. omega arith; times = λ v. refl; port = λ v. refl; own = λ v. refl; peer = λ v. refl; packet = λ v. refl; asked = λ v h. h },
                       (
-                        record { tries = λ v. omega arith; again = λ v. omega arith; times = λ v. refl; packet = λ v. refl; asked = λ v h. h },
+                        record { tries = λ v. omega arith; again = λ v. omega arith; times = λ v. refl; port = λ v. refl; own = λ v. refl; peer = λ v. refl; packet = λ v. refl; asked = λ v h. h },
                         (
-                          record { tries = λ v. omega arith; again = λ v. omega arith; times = λ v. refl; packet = λ v. refl; asked = λ v h. h },
-                          (record { tries = λ v. omega arith; again = λ v. omega arith; times = λ v. refl; packet = λ v. refl; asked = λ v h. h }, tt),
+                          record { tries = λ v. omega arith; again = λ v. omega arith; times = λ v. refl; port = λ v. refl; own = λ v. refl; peer = λ v. refl; packet = λ v. refl; asked = λ v h. h },
+                          (record { tries = λ v. omega arith; again = λ v. omega arith; times = λ v. refl; port = λ v. refl; own = λ v. refl; peer = λ v. refl; packet = λ v. refl; asked = λ v h. h }, tt),
                         ),
                       ),
                     ),
@@ -123,47 +126,47 @@ same_backend = (
 
 same_reauth : Each Grows reauth_table
 same_reauth = (
-  record { tries = λ v. omega arith; again = λ v. omega arith; times = λ v. refl; packet = λ v. refl; asked = λ v h. h },
+  record { tries = λ v. omega arith; again = λ v. omega arith; times = λ v. refl; port = λ v. refl; own = λ v. refl; peer = λ v. refl; packet = λ v. refl; asked = λ v h. h },
   (
-    record { tries = λ v. omega arith; again = λ v. omega arith; times = λ v. refl; packet = λ v. refl; asked = λ v h. h },
-    (record { tries = λ v. omega arith; again = λ v. omega arith; times = λ v. refl; packet = λ v. refl; asked = λ v h. h }, tt),
+    record { tries = λ v. omega arith; again = λ v. omega arith; times = λ v. refl; port = λ v. refl; own = λ v. refl; peer = λ v. refl; packet = λ v. refl; asked = λ v h. h },
+    (record { tries = λ v. omega arith; again = λ v. omega arith; times = λ v. refl; port = λ v. refl; own = λ v. refl; peer = λ v. refl; packet = λ v. refl; asked = λ v h. h }, tt),
   ),
 )
 
 same_eap : Each Grows eap_table
 same_eap = (
-  record { tries = λ v. omega arith; again = λ v. omega arith; times = λ v. refl; packet = λ v. refl; asked = λ v h. h },
+  record { tries = λ v. omega arith; again = λ v. omega arith; times = λ v. refl; port = λ v. refl; own = λ v. refl; peer = λ v. refl; packet = λ v. refl; asked = λ v h. h },
   (
-    record { tries = λ v. omega arith; again = λ v. omega arith; times = λ v. refl; packet = λ v. refl; asked = λ v h. h },
+    record { tries = λ v. omega arith; again = λ v. omega arith; times = λ v. refl; port = λ v. refl; own = λ v. refl; peer = λ v. refl; packet = λ v. refl; asked = λ v h. h },
     (
-      record { tries = λ v. omega arith; again = λ v. omega arith; times = λ v. refl; packet = λ v. refl; asked = λ v h. h },
+      record { tries = λ v. omega arith; again = λ v. omega arith; times = λ v. refl; port = λ v. refl; own = λ v. refl; peer = λ v. refl; packet = λ v. refl; asked = λ v h. h },
       (
-        record { tries = λ v. omega arith; again = λ v. omega arith; times = λ v. refl; packet = λ v. refl; asked = λ v h. h },
+        record { tries = λ v. omega arith; again = λ v. omega arith; times = λ v. refl; port = λ v. refl; own = λ v. refl; peer = λ v. refl; packet = λ v. refl; asked = λ v h. h },
         (
-          record { tries = λ v. omega arith; again = λ v. omega arith; times = λ v. refl; packet = λ v. refl; asked = λ v h. h },
+          record { tries = λ v. omega arith; again = λ v. omega arith; times = λ v. refl; port = λ v. refl; own = λ v. refl; peer = λ v. refl; packet = λ v. refl; asked = λ v h. h },
           (
-            record { tries = λ v. omega arith; again = λ v. omega arith; times = λ v. refl; packet = λ v. refl; asked = λ v h. h },
+            record { tries = λ v. omega arith; again = λ v. omega arith; times = λ v. refl; port = λ v. refl; own = λ v. refl; peer = λ v. refl; packet = λ v. refl; asked = λ v h. h },
             (
-              record { tries = λ v. omega arith; again = λ v. omega arith; times = λ v. refl; packet = λ v. refl; asked = λ v h. h },
+              record { tries = λ v. omega arith; again = λ v. omega arith; times = λ v. refl; port = λ v. refl; own = λ v. refl; peer = λ v. refl; packet = λ v. refl; asked = λ v h. h },
               (
-                record { tries = λ v. omega arith; again = λ v. omega arith; times = λ v. refl; packet = λ v. refl; asked = λ v h. h },
+                record { tries = λ v. omega arith; again = λ v. omega arith; times = λ v. refl; port = λ v. refl; own = λ v. refl; peer = λ v. refl; packet = λ v. refl; asked = λ v h. h },
                 (
-                  record { tries = λ v. omega arith; again = λ v. omega arith; times = λ v. refl; packet = λ v. refl; asked = λ v h. h },
+                  record { tries = λ v. omega arith; again = λ v. omega arith; times = λ v. refl; port = λ v. refl; own = λ v. refl; peer = λ v. refl; packet = λ v. refl; asked = λ v h. h },
                   (
-                    record { tries = λ v. omega arith; again = λ v. omega arith; times = λ v. refl; packet = λ v. refl; asked = λ v h. cc },
+                    record { tries = λ v. omega arith; again = λ v. omega arith; times = λ v. refl; port = λ v. refl; own = λ v. refl; peer = λ v. refl; packet = λ v. refl; asked = λ v h. cc },
                     (
-                      record { tries = λ v. omega arith; again = λ v. omega arith; times = λ v. refl; packet = λ v. refl; asked = λ v h. h },
+                      record { tries = λ v. omega arith; again = λ v. omega arith; times = λ v. refl; port = λ v. refl; own = λ v. refl; peer = λ v. refl; packet = λ v. refl; asked = λ v h. h },
                       (
-                        record { tries = λ v. omega arith; again = λ v. omega arith; times = λ v. refl; packet = λ v. refl; asked = λ v h. h },
+                        record { tries = λ v. omega arith; again = λ v. omega arith; times = λ v. refl; port = λ v. refl; own = λ v. refl; peer = λ v. refl; packet = λ v. refl; asked = λ v h. h },
                         (
-                          record { tries = λ v. omega arith; again = λ v. omega arith; times = λ v. refl; packet = λ v. refl; asked = λ v h. h },
+                          record { tries = λ v. omega arith; again = λ v. omega arith; times = λ v. refl; port = λ v. refl; own = λ v. refl; peer = λ v. refl; packet = λ v. refl; asked = λ v h. h },
                           (
-                            record { tries = λ v. omega arith; again = λ v. omega arith; times = λ v. refl; packet = λ v. refl; asked = λ v h. h },
+                            record { tries = λ v. omega arith; again = λ v. omega arith; times = λ v. refl; port = λ v. refl; own = λ v. refl; peer = λ v. refl; packet = λ v. refl; asked = λ v h. h },
                             (
-                              record { tries = λ v. omega arith; again = λ v. omega arith; times = λ v. refl; packet = λ v. refl; asked = λ v h. h },
+                              record { tries = λ v. omega arith; again = λ v. omega arith; times = λ v. refl; port = λ v. refl; own = λ v. refl; peer = λ v. refl; packet = λ v. refl; asked = λ v h. h },
                               (
-                                record { tries = λ v. omega arith; again = λ v. omega arith; times = λ v. refl; packet = λ v. refl; asked = λ v h. h },
-                                (record { tries = λ v. omega arith; again = λ v. omega arith; times = λ v. refl; packet = λ v. refl; asked = λ v h. h }, tt),
+                                record { tries = λ v. omega arith; again = λ v. omega arith; times = λ v. refl; port = λ v. refl; own = λ v. refl; peer = λ v. refl; packet = λ v. refl; asked = λ v h. h },
+                                (record { tries = λ v. omega arith; again = λ v. omega arith; times = λ v. refl; port = λ v. refl; own = λ v. refl; peer = λ v. refl; packet = λ v. refl; asked = λ v h. h }, tt),
                               ),
                             ),
                           ),

@@ -10,3 +10,4 @@ pub mod Born
 pub mod Growth
 pub mod Bound
 pub mod Laws
+pub mod Idle

@@ -1,5 +1,6 @@
 -- The EAP machine that passes packets through to a server (RFC 4137, 6).
 use Rattle.std.specs.Prelude.{ℕ, zero, suc, ◌+◌, ◌%◌, Bool, true, false, ◌==◌, ◌&&◌, ◌||◌, not, nat_lt, nat_le, List, [], ◌∷◌, length, drop, slice_index, if◌then◌else◌}
+use Rattle.wire_defs.specs.Eap.{identity_request}
 use Rattle.machine_vars.specs.declared.vars.Vars.{Vars}
 use Rattle.machine_vars.specs.declared.states.Row.TheVariants.{E}
 use Rattle.machine_vars.specs.declared.states.EapState.{EapState}
@@ -63,7 +64,7 @@ start v = record v {
   eap_no_req = false;
   eap_resp = false;
   current_id = next_id v.current_id;
-  last_req_data = record { items = 1 ∷ next_id v.current_id ∷ 0 ∷ 5 ∷ 1 ∷ [] };
+  last_req_data = record { items = identity_request (next_id v.current_id) };
   local = true;
   method_timeout = 0;
   retrans_count = 0;

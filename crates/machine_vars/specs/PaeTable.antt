@@ -1,5 +1,6 @@
 -- The authenticator's port access entity machine (IEEE Std 802.1X-2004, 8.2.4).
 use Rattle.std.specs.Prelude.{ℕ, ◌+◌, Bool, true, false, ◌==◌, ◌&&◌, ◌||◌, not, nat_lt, List, [], ◌∷◌}
+use Rattle.wire_defs.specs.Eap.{canned}
 use Rattle.machine_vars.specs.declared.vars.Vars.{Vars}
 use Rattle.machine_vars.specs.declared.states.Row.TheVariants.{P}
 use Rattle.machine_vars.specs.declared.control.Control.{Control}
@@ -58,10 +59,10 @@ nothing v = []
 
 -- the packets that tell a host of a forced port (RFC 3748, 4.2)
 abbrev pub success : Vars → List (List ℕ)
-success v = (3 ∷ v.current_id ∷ 0 ∷ 4 ∷ []) ∷ []
+success v = canned true v.current_id ∷ []
 
 abbrev pub failure : Vars → List (List ℕ)
-failure v = (4 ∷ v.current_id ∷ 0 ∷ 4 ∷ []) ∷ []
+failure v = canned false v.current_id ∷ []
 
 -- what each state does as it is entered (8.2.4.2)
 abbrev pub initialize : Vars → Vars
