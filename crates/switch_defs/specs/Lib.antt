@@ -1,0 +1,3 @@
+pub mod Switch
+pub mod Turn
+pub mod Decide

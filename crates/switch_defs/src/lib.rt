@@ -1,0 +1,56 @@
+//! The sequential authenticator as definitions: the state of the switch, its turns and its
+//! decisions. They stand in specs/; here are the plain types that they speak of.
+#![tactic(auto)]
+
+use machine_vars::Control;
+
+/// A configured port.
+#[derive(Clone, Copy, Debug, PartialEq, Eq)]
+pub struct PortConf {
+    /// Its number, 1 to 60.
+    pub port: u8,
+    /// The VLAN of its untagged frames where every host is authorised, 1 to 4094.
+    pub native: u16,
+    /// Its administrative control.
+    pub control: Control,
+}
+
+/// What became of a control event.
+#[derive(Clone, Copy, Debug, PartialEq, Eq)]
+pub enum Outcome {
+    /// It was done.
+    Done,
+}
+
+/// Why a data frame is not forwarded, in the order in which it is looked for.
+#[derive(Clone, Copy, Debug, PartialEq, Eq)]
+pub enum Drop9 {
+    /// It has fewer than 14 octets.
+    Runt,
+    /// It has more than 1,518 octets.
+    Giant,
+    /// Its type is that of EAPOL.
+    Control,
+    /// Its destination is one of the addresses that no bridge forwards.
+    Reserved,
+    /// It is tagged already.
+    Tagged,
+    /// Its source is a group address.
+    GroupSource,
+    /// Its port is down, or none of the configured ones.
+    Down,
+    /// Its port is controlled so that no host is authorised.
+    Closed,
+    /// Its source is not authorised.
+    Unauthorised,
+}
+
+/// What is decided on a data frame.
+#[derive(Clone, Copy, Debug, PartialEq, Eq)]
+pub enum Decision {
+    /// It is forwarded, tagged with this VLAN, under the number of its source's session. The number is 0 on a port
+    /// where every host is authorised.
+    Forward { session: u32, vlan: u16 },
+    /// It is dropped.
+    Drop(Drop9),
+}

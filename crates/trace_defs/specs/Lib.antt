@@ -1,0 +1,4 @@
+pub mod Line
+pub mod Trace
+pub mod Reading
+pub mod Output

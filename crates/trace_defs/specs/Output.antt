@@ -1,0 +1,97 @@
+-- The text that is printed for records.
+use Rattle.std.specs.Prelude.{ℕ, ◌+◌, List, [], ◌∷◌, ◌++◌, codes}
+use Rattle.std.specs.List.{flat_map, concat}
+use Rattle.std.specs.Fmt.{decimal}
+use Rattle.hex.specs.Hex.{encode_lower}
+use Rattle.wire_defs.specs.Ethernet.{tagged}
+use Rattle.switch_defs.specs.declared.Outcome.{Outcome}
+use Rattle.switch_defs.specs.declared.Outcome.TheVariants.{Done}
+use Rattle.switch_defs.specs.declared.Decision.{Decision}
+use Rattle.switch_defs.specs.declared.Decision.TheVariants.{Forward, Drop}
+use Rattle.switch_defs.specs.declared.Drop9.{Drop9}
+use Rattle.switch_defs.specs.declared.Drop9.TheVariants.{Runt, Giant, Control as IsControl, Reserved, Tagged, GroupSource, Down, Closed, Unauthorised}
+use Rattle.switch_defs.specs.Switch.{Config, State, Sent, opening}
+use Rattle.switch_defs.specs.Switch.Sent.{ToHost}
+use Rattle.switch_defs.specs.Turn.{turn}
+use Rattle.switch_defs.specs.Decide.{decide}
+use Rattle.trace_defs.specs.Line.{Record}
+use Rattle.trace_defs.specs.Line.Record.{Control, Data}
+
+abbrev pub line_feed : List ℕ
+line_feed = 10 ∷ []
+
+-- `f PORT OCTETS`
+abbrev pub sent_line : Sent → List ℕ
+sent_line (ToHost port octets) = concat (codes "f " ∷ decimal port ∷ codes " " ∷ encode_lower octets ∷ line_feed ∷ [])
+
+abbrev pub sent_lines : List Sent → List ℕ
+sent_lines [] = []
+sent_lines (sent ∷ rest) = sent_line sent ++ sent_lines rest
+
+abbrev pub outcome_text : Outcome → List ℕ
+outcome_text Done = codes "ok"
+
+-- `c RECORD @LANE SERIAL OUTCOME`
+abbrev pub control_line : ℕ → ℕ → ℕ → Outcome → List ℕ
+control_line number lane serial outcome =
+    concat (codes "c " ∷ decimal number ∷ codes " @" ∷ decimal lane ∷ codes " " ∷ decimal serial ∷ codes " " ∷ outcome_text outcome ∷ line_feed ∷ [])
+
+-- the block of a control record
+abbrev pub control_block : ℕ → ℕ → ℕ → Outcome → List Sent → List ℕ
+control_block number lane serial outcome sent = control_line number lane serial outcome ++ sent_lines sent
+
+abbrev pub drop_name : Drop9 → List ℕ
+drop_name Runt = codes "runt"
+drop_name Giant = codes "giant"
+drop_name IsControl = codes "control"
+drop_name Reserved = codes "reserved"
+drop_name Tagged = codes "tagged"
+drop_name GroupSource = codes "group-source"
+drop_name Down = codes "down"
+drop_name Closed = codes "closed"
+drop_name Unauthorised = codes "unauthorised"
+
+-- `d RECORD FRONT forward SESSION VLAN OCTETS`, with the frame that goes out, or `d RECORD FRONT drop NAME`
+abbrev pub data_line : ℕ → ℕ → Decision → List ℕ → List ℕ
+data_line number front (Drop why) out = concat (codes "d " ∷ decimal number ∷ codes " " ∷ decimal front ∷ codes " drop " ∷ drop_name why ∷ line_feed ∷ [])
+data_line number front (Forward session vlan) out =
+    concat (codes "d " ∷ decimal number ∷ codes " " ∷ decimal front ∷ codes " forward " ∷ decimal session ∷ codes " " ∷ decimal vlan ∷ codes " " ∷ encode_lower out ∷ line_feed ∷ [])
+
+-- the frame that goes out
+abbrev pub forwarded : Decision → List ℕ → List ℕ
+forwarded (Drop why) frame = []
+forwarded (Forward session vlan) frame = tagged vlan frame
+
+-- the block of a data record
+abbrev pub data_block : ℕ → ℕ → Decision → List ℕ → List ℕ
+data_block number front decision frame = data_line number front decision (forwarded decision frame)
+
+-- how far the output is: the state, the number of the next record, and the number of control records before it
+pub record Place : Type 0 where
+  pub state : State
+  pub number : ℕ
+  pub serial : ℕ
+
+abbrev pub first_place : Config → Place
+first_place config = record { state = opening config; number = 1; serial = 0 }
+
+abbrev pub block : Place → Record → List ℕ
+block at (Control lane event) = control_block at.number 1 at.serial (turn at.state event).outcome (turn at.state event).sent
+block at (Data port octets) = data_block at.number at.serial (decide at.state port octets) octets
+
+abbrev pub next_place : Place → Record → Place
+next_place at (Control lane event) = record { state = (turn at.state event).state; number = at.number + 1; serial = at.serial + 1 }
+next_place at (Data port octets) = record at { number = at.number + 1 }
+
+abbrev pub blocks : Place → List Record → List ℕ
+blocks at [] = []
+blocks at (r ∷ rest) = block at r ++ blocks (next_place at r) rest
+
+abbrev pub place_after : Place → List Record → Place
+place_after at [] = at
+place_after at (r ∷ rest) = place_after (next_place at r) rest
+
+-- the output of a run on one thread: each control record has lane 1 and as its serial the number of control records
+-- before it, each data record has that number as its front
+abbrev pub plain : Config → List (List Record) → List ℕ
+plain config phases = blocks (first_place config) (flat_map (λ phase. phase) phases)
