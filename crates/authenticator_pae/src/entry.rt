@@ -1,4 +1,4 @@
-// What each state does as it is entered (IEEE Std 802.1X-2004, 8.2.4.2).
+// What each state does as it is entered (IEEE Std 802.1X-2004, 8.2.4).
 
 ghost use Rattle.std.specs.Prelude.{◌≡◌, ◌<◌};
 ghost use Rattle.machine_vars.specs.PaeTable.{initialize, disconnected, restart, connecting, authenticating, authenticated, aborting, held, force_auth, force_unauth};

@@ -1,4 +1,4 @@
-// What each state does as it is entered (IEEE Std 802.1X-2004, 8.2.7.2).
+// What each state does as it is entered (IEEE Std 802.1X-2004, 8.2.7).
 
 ghost use Rattle.std.specs.Prelude.{◌≡◌};
 ghost use Rattle.machine_vars.specs.BackendTable.{initialize, idle, request, response, ignore, timeout, success, fail};

@@ -1,4 +1,4 @@
-// What each state does as it is entered (RFC 4137, 6.2 and 6.3).
+// What each state does as it is entered (RFC 4137, 7).
 
 ghost use Rattle.std.specs.Prelude.{◌≡◌, ◌<◌, true, length};
 ghost use Rattle.machine_vars.specs.EapTable.{fits, next_id, start, idle2, retransmit2, discard2, aaa_request, aaa_idle, aaa_response, send_request2};

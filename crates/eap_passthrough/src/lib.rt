@@ -1,4 +1,4 @@
-//! The EAP machine that passes packets through between a host and a server (RFC 4137, 6).
+//! The EAP machine that passes packets through between a host and a server (RFC 4137, 7).
 #![tactic(auto)]
 
 mod entry;

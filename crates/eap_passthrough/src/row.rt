@@ -11,7 +11,7 @@ use crate::response::response_fits;
 use machine_vars::{EapState, Row, Vars};
 
 /// Takes the enabled row of least number of the EAP machine's table, E1 to E17, and names it (RFC
-/// 4137, 6). `None` comes exactly where none of its rows is enabled; nothing is changed then.
+/// 4137, 7). `None` comes exactly where none of its rows is enabled; nothing is changed then.
 pub fn step(v: &mut Vars) -> Option<Row>
     requires count { v.old.retrans_count < 4294967295 }
     requires held { v.old.aaa_eap_req ≡ true → 1 < length v.old.aaa_eap_req_data.items }

@@ -50,7 +50,7 @@ asks v = v.last_req_data.items ∷ []
 abbrev pub from_server : Vars → List (List ℕ)
 from_server v = v.aaa_eap_req_data.items ∷ []
 
--- what each state does as it is entered (8.2.7.2)
+-- what each state does as it is entered (8.2.7)
 abbrev pub initialize : Vars → Vars
 initialize v = record v { backend = Initialize; aaa_abort = true; aaa_eap_resp = false; eap_no_req = false; auth_abort = false }
 

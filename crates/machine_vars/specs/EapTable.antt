@@ -1,4 +1,4 @@
--- The EAP machine that passes packets through to a server (RFC 4137, 6).
+-- The EAP machine that passes packets through to a server (RFC 4137, 7).
 use Rattle.std.specs.Prelude.{ℕ, zero, suc, ◌+◌, ◌%◌, Bool, true, false, ◌==◌, ◌&&◌, ◌||◌, not, nat_lt, nat_le, List, [], ◌∷◌, length, drop, slice_index, if◌then◌else◌}
 use Rattle.wire_defs.specs.Eap.{identity_request}
 use Rattle.machine_vars.specs.declared.vars.Vars.{Vars}
@@ -53,7 +53,7 @@ always v = true
 abbrev pub next_id : ℕ → ℕ
 next_id id = (id + 1) % 256
 
--- what each state does as it is entered (RFC 4137, 6.2 and 6.3); START stands for the states that ask for the identity
+-- what each state does as it is entered (RFC 4137, 7); START stands for the states that ask for the identity
 abbrev pub start : Vars → Vars
 start v = record v {
   eap = Start;

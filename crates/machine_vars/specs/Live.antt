@@ -21,7 +21,7 @@ as_octets octets = record { items = octets }
 abbrev pub no_octets : ArrayVec ℕ
 no_octets = as_octets []
 
--- the opening value, on a port with its address, for a peer (IEEE Std 802.1X-2004, 8.2.4.2.1; RFC 4137, 6)
+-- the opening value, on a port with its address, for a peer (IEEE Std 802.1X-2004, 8.2.4; RFC 4137, 7)
 abbrev pub fresh : ℕ → List ℕ → List ℕ → Control → Times → Vars
 fresh port own peer control t = record {
   pae = Pae.Initialize;

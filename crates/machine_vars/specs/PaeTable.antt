@@ -64,7 +64,7 @@ success v = canned true v.current_id ∷ []
 abbrev pub failure : Vars → List (List ℕ)
 failure v = canned false v.current_id ∷ []
 
--- what each state does as it is entered (8.2.4.2)
+-- what each state does as it is entered (8.2.4)
 abbrev pub initialize : Vars → Vars
 initialize v = record v { pae = Initialize; port_mode = Auto }
 

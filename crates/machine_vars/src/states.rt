@@ -53,7 +53,7 @@ pub enum Reauth {
     Reauthenticate,
 }
 
-/// The states of the EAP machine that passes packets through to a server (RFC 4137, 6).
+/// The states of the EAP machine that passes packets through to a server (RFC 4137, 7).
 #[derive(Clone, Copy, Debug, PartialEq, Eq)]
 pub enum EapState {
     /// EAP has not begun.

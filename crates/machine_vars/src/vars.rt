@@ -2,7 +2,7 @@ use crate::{Backend, Control, EapState, Pae, Reauth, Times};
 use arrayvec::ArrayVec;
 
 /// The variables of the four machines of one host, or of one forced port (IEEE Std 802.1X-2004, 8.2.2;
-/// RFC 4137, 5.1 and 6.1). Octets that are absent are empty. Times are in seconds.
+/// RFC 4137, 7). Octets that are absent are empty. Times are in seconds.
 #[derive(Drop)]
 pub struct Vars {
     pub pae: Pae,
