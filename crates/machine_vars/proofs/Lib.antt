@@ -1,0 +1,13 @@
+pub mod Restart
+pub mod Events
+pub mod Asking
+pub mod Server
+pub mod Late
+pub mod Over
+pub mod Changed
+pub mod Main
+pub mod Born
+pub mod Growth
+pub mod Bound
+pub mod Laws
+pub mod Idle

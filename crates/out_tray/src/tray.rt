@@ -1,0 +1,190 @@
+ghost use Rattle.std.specs.Prelude.{◌≡◌, ◌+◌, ◌<◌, ◌≤◌, [], ◌∷◌, ◌++◌, length, Some, slice_get, slice_range, IfOk, MatchOption};
+ghost use Rattle.out_tray.specs.Item.{item_of, octets_of, sent_by};
+ghost use Rattle.out_tray.specs.Tray.{spare};
+ghost use Rattle.out_tray.specs.Layout.{start_at};
+
+use crate::sent::{Sent, Way};
+use std::alloc::{AllocError, Global};
+use std::marker::Model;
+
+// Where the octets of an item go, and where they end among the octets of all items.
+#[derive(Clone, Copy)]
+struct Entry {
+    way: Way,
+    end: usize,
+}
+
+/// The list of the things sent, in order, with room beside it that contracts see: that of the
+/// number of sessions that it was opened for.
+#[derive(Drop)]
+pub struct Tray {
+    sessions: usize,
+    room: usize,
+    entries: Vec<Entry>,
+    octets: Vec<u8>,
+}
+
+impl Model for Tray {
+    ghost use Rattle.std.specs.Prelude.{vec_capacity};
+    ghost use Rattle.out_tray.specs.Tray.{Things};
+    ghost use Rattle.out_tray.specs.Layout.{items_from, Sound};
+
+    ghost Value = { Things };
+
+    ghost view = { λ t. record { sessions = t.sessions; items = items_from 0 t.entries.items t.octets.items } };
+
+    ghost invariant = { λ t. Sound t.sessions t.room t.entries.items t.octets.items (vec_capacity t.entries) (vec_capacity t.octets) };
+}
+
+const EACH_SESSION: usize = 90_000;
+
+const BESIDE: usize = 100_000;
+
+const EACH_ITEM: usize = 16;
+
+impl Tray {
+    /// An empty tray with room for 90,000 octets for each session and 100,000 more, where each item
+    /// takes 16 octets beside its own. Only this call takes memory. `AllocError`: there is none.
+    pub fn open(alloc: Global, sessions: usize) -> Result<Tray, AllocError>
+        ensures { IfOk result (λ tray. tray ≡ record { sessions = sessions; items = [] }) }
+    {
+        let room = sessions
+            .checked_mul(EACH_SESSION)
+            .and_then(|octets| octets.checked_add(BESIDE))
+            .ok_or(AllocError)?;
+        let entries = Vec::with_capacity(alloc, room / EACH_ITEM)?;
+        let octets = Vec::with_capacity(alloc, room)?;
+        Ok(Tray {
+            sessions,
+            room,
+            entries,
+            octets,
+        })
+    }
+
+    /// How many octets there is room for: of one item, its own octets and 16.
+    pub fn spare(&self) -> usize
+        ensures { result ≡ spare self.now }
+    {
+        self.room - EACH_ITEM * self.entries.len() - self.octets.len()
+    }
+
+    /// Takes all items out, and gives all of the room back.
+    pub fn clear(&mut self)
+        ensures { self.new ≡ record self.old { items = [] } }
+    {
+        self.entries.clear();
+        self.octets.clear();
+    }
+
+    /// Appends an item. Its octets and 16 must be at most [`Tray::spare`]. Nothing is allocated, and
+    /// what is there is not moved.
+    pub fn put(&mut self, s: Sent<'_>)
+        requires { length (octets_of (item_of s)) + 16 ≤ spare self.old }
+        ensures items { self.new ≡ record self.old { items = self.old.items ++ item_of s.entry ∷ [] } }
+        ensures room { spare self.new + length (octets_of (item_of s.entry)) + 16 ≡ spare self.old }
+    {
+        match s {
+            Sent::Frame { port, octets } => self.append(Way::Frame { port }, octets),
+            Sent::Radius { octets } => self.append(Way::Radius, octets),
+            Sent::Reply { to, octets } => self.append(Way::Reply { to }, octets),
+        }
+    }
+
+    fn append(&mut self, way: Way, octets: &[u8])
+        requires { length octets.now + 16 ≤ spare self.old }
+        ensures items { self.new ≡ record self.old { items = self.old.items ++ sent_by way octets.now ∷ [] } }
+        ensures room { spare self.new + length octets.now + 16 ≡ spare self.old }
+    {
+        let _fits = self.octets.extend_from_slice(octets);
+        let end = self.octets.len();
+        self.entries.push_reserved(Entry { way, end });
+    }
+
+    /// The number of items.
+    pub fn len(&self) -> usize
+        ensures { result ≡ length self.now.items }
+    {
+        self.entries.len()
+    }
+
+    /// The item at a place, from 0. `None` comes exactly where the place is not below [`Tray::len`].
+    pub fn item(&self, n: usize) -> Option<Sent<'_>>
+        ensures { MatchOption result (length self.now.items ≤ n) (λ sent. slice_get self.now.items n ≡ Some (item_of sent)) }
+    {
+        let Some(entry) = self.entries.get(n) else {
+            return None;
+        };
+        let start = start_of(&self.entries, n);
+        Some(sent(entry.way, part(&self.octets, start, entry.end)))
+    }
+}
+
+// Where the item at a place begins: where the one before it ends.
+fn start_of(entries: &[Entry], n: usize) -> usize
+    requires { n < length entries.now }
+    ensures { result ≡ start_at 0 entries.now n }
+{
+    if n == 0 { 0 } else { entries[n - 1].end }
+}
+
+fn part(octets: &[u8], start: usize, end: usize) -> &[u8]
+    requires rises { start ≤ end }
+    requires within { end ≤ length octets.now }
+    ensures { result.now ≡ slice_range octets.now start end }
+{
+    &octets[start..end]
+}
+
+fn sent(way: Way, octets: &[u8]) -> Sent<'_>
+    ensures { item_of result ≡ sent_by way octets.now }
+{
+    match way {
+        Way::Frame { port } => Sent::Frame { port, octets },
+        Way::Radius => Sent::Radius { octets },
+        Way::Reply { to } => Sent::Reply { to, octets },
+    }
+}
+
+#[cfg(test)]
+mod tests {
+    use super::Tray;
+    use crate::Sent;
+    use wire_core::Addr;
+
+    // A tray for no session has room for 100,000 octets, with 16 beside each item.
+    #[test]
+    fn a_tray_is_filled_to_its_last_octet(rt: HostRuntime) {
+        let mut tray = Tray::open(rt.alloc(), 0).expect(&rt, "there is memory");
+        let zeros = [0u8; 49_984];
+        let to = Addr {
+            ip: [192, 0, 2, 1],
+            port: 3799,
+        };
+        assert_eq!(rt; tray.spare(), 100_000);
+        tray.put(Sent::Frame {
+            port: 7,
+            octets: &zeros,
+        });
+        assert_eq!(rt; tray.spare(), 50_000);
+        tray.put(Sent::Reply {
+            to,
+            octets: &zeros[..49_968],
+        });
+        assert_eq!(rt; tray.spare(), 16);
+        tray.put(Sent::Radius { octets: &[] });
+        assert_eq!(rt; tray.spare(), 0);
+        assert_eq!(rt; tray.len(), 3);
+        assert!(rt;
+            matches!(tray.item(0), Some(Sent::Frame { port: 7, octets }) if octets.len() == 49_984)
+        );
+        assert!(rt;
+            matches!(tray.item(1), Some(Sent::Reply { to: Addr { port: 3799, .. }, octets }) if octets.len() == 49_968)
+        );
+        assert!(rt; matches!(tray.item(2), Some(Sent::Radius { octets }) if octets.is_empty()));
+        assert!(rt; tray.item(3).is_none());
+        tray.clear();
+        assert_eq!(rt; tray.spare(), 100_000);
+        assert_eq!(rt; tray.len(), 0);
+    }
+}

@@ -1,0 +1,4 @@
+pub mod Scan
+pub mod Sends
+pub mod Loop
+pub mod Ready

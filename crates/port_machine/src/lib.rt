@@ -1,0 +1,18 @@
+//! The four machines together: the variables of a session or of a forced port, what an event sets in
+//! them, and settling.
+#![tactic(auto)]
+
+mod event;
+mod frame;
+mod opening;
+mod settling;
+
+pub use event::{
+    accept, acknowledge, challenge, change, greet, log_off, notice, receive, reject, second, start,
+    to_all,
+};
+pub use opening::fresh;
+pub use settling::settle;
+
+#[cfg(test)]
+mod tests;
