@@ -107,3 +107,29 @@ is_status ReadFault = inr (inr (inr (inl refl)))
 is_status WriteFault = inr (inr (inr (inr refl)))
 is_status Full = inl (inr (inr (inl refl)))
 is_status TooLong = inl (inr (inr (inr refl)))
+
+pub read_fault_only : (ending : Ending) → status_of ending ≡ 4 → ending ≡ ReadFault
+read_fault_only ReadFault is = refl
+read_fault_only Done is = absurd (omega arith)
+read_fault_only NoMemory is = absurd (omega arith)
+read_fault_only (Refused line why) is = absurd (omega arith)
+read_fault_only WriteFault is = absurd (omega arith)
+read_fault_only Full is = absurd (omega arith)
+read_fault_only TooLong is = absurd (omega arith)
+
+pub write_fault_only : (ending : Ending) → status_of ending ≡ 5 → ending ≡ WriteFault
+write_fault_only WriteFault is = refl
+write_fault_only Done is = absurd (omega arith)
+write_fault_only NoMemory is = absurd (omega arith)
+write_fault_only (Refused line why) is = absurd (omega arith)
+write_fault_only ReadFault is = absurd (omega arith)
+write_fault_only Full is = absurd (omega arith)
+write_fault_only TooLong is = absurd (omega arith)
+
+-- a status that is none of want of memory, of the words and of the outside
+pub by_text_else : (status : ℕ) → IsStatus status → (status ≡ 1 → ⊥) → (status ≡ 2 → ⊥) → (status ≡ 4 → ⊥) → (status ≡ 5 → ⊥) → IsByText status
+by_text_else status (inl s) memory words reads writes = s
+by_text_else status (inr (inl e)) memory words reads writes = absurd (memory e)
+by_text_else status (inr (inr (inl e))) memory words reads writes = absurd (words e)
+by_text_else status (inr (inr (inr (inl e)))) memory words reads writes = absurd (reads e)
+by_text_else status (inr (inr (inr (inr e)))) memory words reads writes = absurd (writes e)

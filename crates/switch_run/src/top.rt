@@ -42,6 +42,9 @@ pub fn switch_top<S: Source, K: Sink>(
     ensures status { IsByText result → IfSome (S.left source.old) (λ b. fate MOST_OCTETS MOST_CONTROLS empty b ≡ result) }
     ensures output { IsByText result → IfSome (S.left source.old) (λ b. Appends (K.taken out.old) (K.taken out.new)
         (plain (progress_of (trace_of MOST_OCTETS MOST_CONTROLS empty b)).config (whole MOST_OCTETS MOST_CONTROLS empty b))) }
+    // It is that of the text always, unless something outside failed or there was no memory.
+    ensures always { (Rose (S.faults source.old) (S.faults source.new) → ⊥) → (Rose (K.faults out.old) (K.faults out.new) → ⊥) → result ≢ 1 → result ≢ 2
+        → IfSome (S.left source.old) (λ b. fate MOST_OCTETS MOST_CONTROLS empty b ≡ result) }
     ensures at_end { result ≡ 0 → IsAtEnd (S.left source.new) }
 
     // A fault comes only where a count rose. What was written is right for the phases that were given as a whole; after a
