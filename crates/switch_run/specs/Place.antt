@@ -11,7 +11,7 @@ use Rattle.switch_defs.specs.Turn.{turn}
 use Rattle.trace_defs.specs.Line.{Record as Entered}
 use Rattle.trace_defs.specs.Line.Record.{Control as ControlEntry, Data as DataEntry}
 use Rattle.trace_defs.specs.Output.{Place, block, next_place, blocks, place_after}
-use Rattle.trace_lang.specs.Meaning.{event_of}
+use Rattle.trace_lang.specs.Event.{event_of}
 use Rattle.switch_run.specs.declared.authenticator.Core.{Core}
 use Rattle.switch_run.specs.declared.entry.Entry.{Entry}
 use Rattle.switch_run.specs.declared.entry.Entry.TheVariants.{Control, Data}

@@ -5,7 +5,8 @@ ghost use Rattle.switch_defs.specs.Switch.Event.{Link as LinkEvent};
 ghost use Rattle.switch_defs.specs.declared.Outcome.TheVariants.{Done};
 ghost use Rattle.trace_defs.specs.Line.Record.{Control as ControlEntry, Data as DataEntry};
 ghost use Rattle.trace_defs.specs.Output.{first_place, control_block, data_line};
-ghost use Rattle.trace_lang.specs.Meaning.{event_of, HaveVlans};
+ghost use Rattle.trace_lang.specs.Event.{event_meaning, event_of};
+ghost use Rattle.trace_lang.specs.Meaning.{HaveVlans};
 ghost use Rattle.trace_lang.specs.Printing.{sent_of};
 ghost use Rattle.switch_run.specs.Place.{stands, entered, sent_to, AreVlans, PrintsRecord, PrintsRecords, Turns};
 
@@ -16,7 +17,7 @@ use crate::ports::{find_port, opened_ports, set_link};
 use arrayvec::ArrayVec;
 use std::alloc::{AllocError, Global};
 use switch_defs::{Decision, Outcome, Port};
-use trace_lang::{Config, Decided, Record, print_control, print_data};
+use trace_lang::{Config, Decided, Event, Record, print_control, print_data};
 
 /// The ports, the number of the next record, and the number of control records before it.
 #[derive(Drop)]
@@ -109,7 +110,7 @@ impl Core {
         ensures block { (lane : ℕ) → OnOk result (PrintsRecord self.old self.new config.now (ControlEntry lane (event_of what.now)) text.old.items text.new.items) }
     {
         let mut frame = ArrayVec::new();
-        match self.turn(config, what, &mut frame) {
+        match self.turn(config, &what.event(), &mut frame) {
             Some(port) => self.end_control(alloc, Some((port, frame.as_slice())), text),
             None => self.end_control(alloc, None, text),
         }
@@ -142,15 +143,15 @@ impl Core {
     }
 
     // Does one control event. Where a frame is sent, answers its port.
-    fn turn(&mut self, config: &Config, what: &Record, frame: &mut ArrayVec<u8, 1518>) -> Option<u8>
+    fn turn(&mut self, config: &Config, event: &Event, frame: &mut ArrayVec<u8, 1518>) -> Option<u8>
         requires vlans { AreVlans self.old.ports.items }
-        ensures turned { Turns config.now self.old self.new (event_of what.now) (sent_to result frame.new.items) }
+        ensures turned { Turns config.now self.old self.new (event_meaning event.now) (sent_to result frame.new.items) }
         ensures vlans { AreVlans self.new.ports.items }
         ensures number { self.new.number ≡ self.old.number }
         ensures serial { self.new.serial ≡ self.old.serial }
     {
-        match what {
-            Record::Link { port, up } => self.turn_link(config, *port, *up, frame),
+        match event {
+            Event::Link { port, up } => self.turn_link(config, *port, *up, frame),
         }
     }
 

@@ -4,7 +4,8 @@ ghost use Rattle.wire_defs.specs.Outside.{Rose};
 ghost use Rattle.trace_defs.specs.Line.Record.{Control as ControlEntry, Data as DataEntry};
 ghost use Rattle.trace_defs.specs.Line.Line.{Begin as IsBegin, Sync as IsSync};
 ghost use Rattle.trace_defs.specs.Trace.{start, after_line, add_line, add_record};
-ghost use Rattle.trace_lang.specs.Meaning.{event_of, ArePorts, HaveVlans};
+ghost use Rattle.trace_lang.specs.Event.{event_of};
+ghost use Rattle.trace_lang.specs.Meaning.{ArePorts, HaveVlans};
 ghost use Rattle.switch_run.specs.declared.run.Ending.TheVariants.{ReadFault, WriteFault, NoMemory};
 ghost use Rattle.switch_run.specs.Run.{IsAt, IsSound, Steps, Halts, HasEndingCause, EndingCause, RunEnds, TakesOctet, StopsAtOctet, EndsAtEnd, EndsTrace, ended};
 

@@ -1,3 +1,4 @@
 pub mod Words
+pub mod Event
 pub mod Meaning
 pub mod Printing

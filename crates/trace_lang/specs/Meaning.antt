@@ -2,8 +2,7 @@
 use Rattle.std.specs.Prelude.{◌≡◌, ℕ, nat_eq, ◌&&◌, nat_le, Bool, true, false, List, map, Option, Some, None, Result, Ok, Err, ⊤}
 use Rattle.std.specs.List.{list_all, IsDistinct}
 use Rattle.switch_defs.specs.declared.PortConf.{PortConf}
-use Rattle.switch_defs.specs.Switch.{Config, Event}
-use Rattle.switch_defs.specs.Switch.Event.{Link as LinkEvent}
+use Rattle.switch_defs.specs.Switch.{Config}
 use Rattle.trace_defs.specs.Line.{unbuilt, Line as Meaning}
 use Rattle.trace_defs.specs.Line.Line.{Blank as IsBlank, Begin as IsBegin, Sync as IsSync, Setting as IsSetting, Entry}
 use Rattle.trace_defs.specs.Line.Record.{Control as ControlEntry, Data as DataEntry}
@@ -11,11 +10,7 @@ use Rattle.trace_lang.specs.declared.line.Line.{Line}
 use Rattle.trace_lang.specs.declared.line.Line.TheVariants.{Blank, Begin, Sync, Setting, Control, Data}
 use Rattle.trace_lang.specs.declared.line.LineErr.{LineErr}
 use Rattle.trace_lang.specs.declared.line.LineErr.TheVariants.{Bad, NoMemory}
-use Rattle.trace_lang.specs.declared.line.Record.{Record}
-use Rattle.trace_lang.specs.declared.line.Record.TheVariants.{Link}
-
-abbrev pub event_of : Record → Event
-event_of (Link port up) = LinkEvent port up
+use Rattle.trace_lang.specs.Event.{event_of}
 
 -- a line, by the settings after it
 abbrev pub meaning : Config → ℕ → Line → Meaning

@@ -2,6 +2,7 @@
 #![tactic(auto)]
 
 mod config;
+mod event;
 mod line;
 mod octets;
 mod print;
@@ -9,7 +10,8 @@ mod values;
 mod words;
 
 pub use config::Config;
-pub use line::{Line, LineErr, Record, read_line};
+pub use event::{Event, Record};
+pub use line::{Line, LineErr, read_line};
 pub use octets::Octets;
 pub use print::{Decided, print_control, print_data};
 pub use switch_defs::{Decision, Drop9, Outcome, PortConf};

@@ -8,6 +8,7 @@ ghost use Rattle.trace_lang.specs.Meaning.{Means, Sets, IsInPlace, ArePorts, Hav
 ghost use Rattle.trace_lang.specs.declared.line.LineErr.TheVariants.{NoMemory};
 
 use crate::config::Config;
+use crate::event::Record;
 use crate::octets::Octets;
 use crate::values::{
     control_choice, hex_octets, ip_of, link_choice, port_of, udp_port_of, vlan_of,
@@ -33,13 +34,6 @@ impl From<AllocError> for LineErr {
     fn from(_: AllocError) -> Self {
         LineErr::NoMemory
     }
-}
-
-/// A control event that owns its octets.
-#[derive(Drop)]
-pub enum Record {
-    /// The link of a port comes up or goes down.
-    Link { port: u8, up: bool },
 }
 
 /// What a line means.

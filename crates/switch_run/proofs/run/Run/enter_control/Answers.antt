@@ -1,5 +1,5 @@
 use Rattle.std.proofs.Common.{refl}
-use Rattle.trace_lang.specs.Meaning.{event_of}
+use Rattle.trace_lang.specs.Event.{event_of}
 use Rattle.switch_run.proofs.StepLemmas.{Steps-control, Halts-full}
 use Rattle.switch_run.proofs.run.Run.enter_control.Goals as goal
 

@@ -2,7 +2,7 @@ use Rattle.std.proofs.Common.{refl, ap, sym, ◌∙◌, Ok}
 use Rattle.trace_defs.specs.Line.{line_of}
 use Rattle.trace_defs.specs.Line.Line.{Blank as IsBlank, Begin as IsBegin, Sync as IsSync, Setting as IsSetting, Entry}
 use Rattle.trace_defs.specs.Line.Record.{Control as ControlEntry, Data as DataEntry}
-use Rattle.trace_lang.specs.Meaning.{event_of}
+use Rattle.trace_lang.specs.Event.{event_of}
 use Rattle.switch_run.specs.declared.run.Run.{Run}
 use Rattle.switch_run.proofs.StepLemmas.{kept_run, Steps-read, Steps-read-ok, Halts-read-err, Steps-blank, Steps-setting}
 use Rattle.switch_run.proofs.run.Run.take_line.Goals as goal
