@@ -4,6 +4,7 @@
 
 mod event;
 mod frame;
+mod laws;
 mod opening;
 mod settling;
 
@@ -11,6 +12,7 @@ pub use event::{
     accept, acknowledge, challenge, change, greet, log_off, notice, receive, reject, second, start,
     to_all,
 };
+pub use laws::steps_take_the_row_of_least_number;
 pub use opening::fresh;
 pub use settling::settle;
 

@@ -1,6 +1,7 @@
 ghost use Rattle.std.specs.Prelude.{◌≡◌, ◌<◌, ◌≤◌, ◌+◌, [], ◌∷◌, ◌++◌, ℕ, List, Some, None, true, length};
 ghost use Rattle.machine_vars.specs.Settling.{TakesNext, Settles, next};
 ghost use Rattle.machine_vars.specs.Live.{Ready, Live};
+ghost use Rattle.machine_vars.specs.Settled.{Settled};
 ghost use Rattle.machine_vars.specs.declared.states.Row.{Row as RowValue};
 ghost use Rattle.out_tray.specs.Tray.{spare};
 ghost use Rattle.port_machine.specs.Frames.{frames, sent_by};
@@ -13,7 +14,8 @@ use out_tray::{Sent, Tray};
 /// Takes rows until none is enabled, puts the frame of each packet that a row sends into the tray, in
 /// order, and answers the number of rows, at most 48. The value may be settled where [`crate::fresh`]
 /// made it, or where it is a settled one in which one event was set; the tray has 80,000 octets
-/// spare, of which at most 73,632 are taken. No memory.
+/// spare, of which at most 73,632 are taken. The value afterwards is one of the nine settled
+/// combinations. No memory.
 pub fn settle(v: &mut Vars, tray: &mut Tray) -> u32
     requires ready { Ready v.old }
     requires room { 80000 ≤ spare tray.old }
@@ -21,6 +23,7 @@ pub fn settle(v: &mut Vars, tray: &mut Tray) -> u32
     ensures bound { result ≤ 48 }
     ensures live { Live v.new }
     ensures settled { next v.new ≡ None }
+    ensures combination { Settled v.new }
     ensures room { spare tray.old ≤ spare tray.new + 73632 }
 {
     let mut rows = 0;

@@ -1,6 +1,6 @@
 use Rattle.std.proofs.Common.{◌++◌, ap, refl, ◌∙◌, arith}
 use Rattle.out_tray.specs.Tray.{Things}
-use Rattle.machine_vars.proofs.Bound.{ready_live}
+use Rattle.machine_vars.proofs.Bound.{ready_live, ready_ends, ends_settled}
 use Rattle.machine_vars.proofs.Idle.{settles_idle}
 use Rattle.port_machine.specs.Frames.{frames}
 use Rattle.port_machine.proofs.Loop.{under_start, under_more, under_end, under_room, same_things}
@@ -38,3 +38,8 @@ pub returns-clause-settled : goal.returns-clause-settled
 returns-clause-settled c =
     let end = under_end c.args.v.now c.rows.v c.next_row.new.v c.rows.rows _ _ c.rows.invariant.under c.in_default.ensures in
     settles_idle end.2
+
+pub returns-clause-combination : goal.returns-clause-combination
+returns-clause-combination c =
+    let end = under_end c.args.v.now c.rows.v c.next_row.new.v c.rows.rows _ _ c.rows.invariant.under c.in_default.ensures in
+    (ends_settled end.2 48 (ready_ends c.requires.ready)).0
