@@ -1,39 +1,15 @@
--- The state of the switch, what happens to it and what it sends.
-use Rattle.std.specs.Prelude.{ℕ, ◌==◌, Bool, false, List, [], ◌∷◌, ◌++◌, take, map, Option, find}
+-- The state of the switch, and what it sends.
+use Rattle.std.specs.Prelude.{ℕ, ◌==◌, false, List, [], ◌∷◌, ◌++◌, take, map, Option, find}
 use Rattle.wire_defs.specs.Ethernet.{eapol_kind, plain_text}
 use Rattle.wire_defs.specs.Eapol.{eapol_text}
-use Rattle.switch_defs.specs.declared.PortConf.{PortConf}
+use Rattle.switch_event.specs.declared.config.PortConf.{PortConf}
+use Rattle.switch_event.specs.declared.event.Outcome.{Outcome}
+use Rattle.switch_event.specs.Config.{Config}
 use Rattle.switch_defs.specs.declared.Port.{Port}
-use Rattle.switch_defs.specs.declared.Outcome.{Outcome}
-
--- an address and a port of UDP
-pub record Addr : Type 0 where
-  pub ip : List ℕ
-  pub port : ℕ
-
--- the settings: the address of the bridge, the RADIUS server and the secret shared with it, and the ports
-pub record Config : Type 0 where
-  pub bridge : List ℕ
-  pub server : Addr
-  pub secret : List ℕ
-  pub ports : List PortConf
-
--- the settings before the first is given
-abbrev pub empty : Config
-empty = record {
-  bridge = 2 ∷ 0 ∷ 0 ∷ 1 ∷ 1 ∷ 0 ∷ [];
-  server = record { ip = 0 ∷ 0 ∷ 0 ∷ 0 ∷ []; port = 0 };
-  secret = [];
-  ports = [];
-}
 
 pub record State : Type 0 where
   pub config : Config
   pub ports : List Port
-
--- a control event
-pub data Event : Type 0 where
-  Link : (port : ℕ) → (up : Bool) → Event
 
 -- what the switch sends
 pub data Sent : Type 0 where

@@ -4,10 +4,12 @@ use Rattle.machine_vars.specs.declared.control.Control.{Control}
 use Rattle.machine_vars.specs.declared.control.Control.TheVariants.{Auto, ForceAuth, ForceUnauth}
 use Rattle.wire_defs.specs.Ethernet.{pae_group}
 use Rattle.wire_defs.specs.Eap.{identity_request, canned}
-use Rattle.switch_defs.specs.declared.PortConf.{PortConf}
-use Rattle.switch_defs.specs.declared.Outcome.TheVariants.{Done}
+use Rattle.switch_event.specs.declared.config.PortConf.{PortConf}
+use Rattle.switch_event.specs.declared.event.Outcome.TheVariants.{Done}
+use Rattle.switch_event.specs.Config.{Config}
+use Rattle.switch_event.specs.Event.{Happening, Frame, Radius, Dynamic, Second, Link, SetControl}
 use Rattle.switch_defs.specs.declared.Port.{Port}
-use Rattle.switch_defs.specs.Switch.{Config, State, Event, Sent, Turned, Link, ToHost, port_of, port_address, eap_frame}
+use Rattle.switch_defs.specs.Switch.{State, Sent, Turned, ToHost, port_of, port_address, eap_frame}
 
 -- nothing changes, and nothing is sent
 abbrev pub still : State → Turned
@@ -40,10 +42,16 @@ abbrev pub do_link : Option Port → Bool → State → Turned
 do_link None up s = still s
 do_link (Some p) up s = change_link p.link up p.conf s
 
-abbrev pub turn : State → Event → Turned
+-- a link is all that is turned yet: a trace with another event is refused
+abbrev pub turn : State → Happening → Turned
 turn s (Link port up) = do_link (port_of port s) up s
+turn s (Frame port octets) = still s
+turn s (Radius octets) = still s
+turn s (Dynamic from octets) = still s
+turn s Second = still s
+turn s (SetControl port control) = still s
 
 -- the state after the turns of some events
-abbrev pub runs : State → List Event → State
+abbrev pub runs : State → List Happening → State
 runs s [] = s
 runs s (event ∷ events) = runs (turn s event).state events

@@ -2,29 +2,7 @@
 //! decisions. They stand in specs/; here are the plain types that they speak of.
 #![tactic(auto)]
 
-use machine_vars::Control;
-
-/// A configured port.
-#[derive(Clone, Copy, Debug, PartialEq, Eq)]
-pub struct PortConf {
-    /// Its number, 1 to 60.
-    pub port: u8,
-    /// The VLAN of its untagged frames where every host is authorised, 1 to 4094.
-    pub native: u16,
-    /// Its administrative control.
-    pub control: Control,
-}
-
-/// Port 1 with VLAN 1, where authentication decides.
-impl Default for PortConf {
-    fn default() -> Self {
-        PortConf {
-            port: 1,
-            native: 1,
-            control: Control::Auto,
-        }
-    }
-}
+use switch_event::PortConf;
 
 /// A configured port as it stands.
 #[derive(Clone, Copy, Debug, PartialEq, Eq)]
@@ -33,13 +11,6 @@ pub struct Port {
     pub conf: PortConf,
     /// Whether its link is up.
     pub link: bool,
-}
-
-/// What became of a control event.
-#[derive(Clone, Copy, Debug, PartialEq, Eq)]
-pub enum Outcome {
-    /// It was done.
-    Done,
 }
 
 /// Why a data frame is not forwarded, in the order in which it is looked for.

@@ -2,7 +2,7 @@
 use Rattle.std.proofs.Common.{◌≡◌, List, [], ◌∷◌, ◌++◌, refl, sym, ap, ◌∙◌, append_assoc, append-nil}
 use Rattle.std.specs.List.{flat_map}
 use Rattle.std.proofs.lemmas.List.Concat.{flat_map-append}
-use Rattle.switch_defs.specs.Switch.{Config}
+use Rattle.switch_event.specs.Config.{Config}
 use Rattle.trace_defs.specs.Line.{Record}
 use Rattle.trace_defs.specs.Output.{Place, block, next_place, blocks, place_after, first_place, plain}
 

@@ -3,7 +3,7 @@ use Rattle.std.proofs.Common.{◌≡◌, ◌≢◌, ℕ, suc, ◌+◌, ◌-◌, 
 use Rattle.std.proofs.Math.Seq.{take-append-add, take-append_seam}
 use Rattle.std.proofs.lemmas.Bool.Decides.{nat_tests}
 use Rattle.wire_defs.specs.Text.{ended_lines, open_line, last_line}
-use Rattle.switch_defs.specs.Switch.{Config}
+use Rattle.switch_event.specs.Config.{Config}
 use Rattle.trace_defs.specs.Trace.{Progress, Stop, read_lines, go_on, after_line, start, counted_lines, trace_of}
 use Rattle.trace_defs.specs.Trace.Reading.{Going, Stopped}
 use Rattle.trace_defs.specs.Reading.{HasRead}

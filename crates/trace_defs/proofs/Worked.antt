@@ -2,7 +2,7 @@
 use Rattle.std.proofs.Common.{◌≡◌, ℕ, refl, List, [], ◌∷◌, ◌++◌, codes}
 use Rattle.std.specs.Fmt.{digits}
 use Rattle.hex.proofs.OnLiterals.{hex_on_literals}
-use Rattle.switch_defs.specs.Switch.{empty}
+use Rattle.switch_event.specs.Config.{empty}
 use Rattle.trace_defs.specs.Trace.{trace_of, fate, whole, progress_of}
 use Rattle.trace_defs.specs.Output.{plain}
 

@@ -1,4 +1,8 @@
+pub mod Reason
+pub mod Word
 pub mod Line
+pub mod Text
+pub mod Kept
 pub mod Trace
 pub mod Reading
 pub mod Output

@@ -1,16 +1,17 @@
 -- The text that is printed for records.
-use Rattle.std.specs.Prelude.{ℕ, ◌+◌, List, [], ◌∷◌, ◌++◌, codes}
+use Rattle.std.specs.Prelude.{ℕ, ◌+◌, ◌==◌, if◌then◌else◌, List, [], ◌∷◌, ◌++◌, codes}
 use Rattle.std.specs.List.{flat_map, concat}
 use Rattle.std.specs.Fmt.{decimal}
 use Rattle.hex.specs.Hex.{encode_lower}
 use Rattle.wire_defs.specs.Ethernet.{tagged}
-use Rattle.switch_defs.specs.declared.Outcome.{Outcome}
-use Rattle.switch_defs.specs.declared.Outcome.TheVariants.{Done}
+use Rattle.switch_event.specs.declared.event.Outcome.{Outcome}
+use Rattle.switch_event.specs.declared.event.Outcome.TheVariants.{Done, FrameDropped, AnswerDropped, Acked, Naked, Again, RequestDropped}
+use Rattle.switch_event.specs.Config.{Config}
 use Rattle.switch_defs.specs.declared.Decision.{Decision}
 use Rattle.switch_defs.specs.declared.Decision.TheVariants.{Forward, Drop}
 use Rattle.switch_defs.specs.declared.Drop9.{Drop9}
 use Rattle.switch_defs.specs.declared.Drop9.TheVariants.{Runt, Giant, Control as IsControl, Reserved, Tagged, GroupSource, Down, Closed, Unauthorised}
-use Rattle.switch_defs.specs.Switch.{Config, State, Sent, opening}
+use Rattle.switch_defs.specs.Switch.{State, Sent, opening}
 use Rattle.switch_defs.specs.Switch.Sent.{ToHost}
 use Rattle.switch_defs.specs.Turn.{turn}
 use Rattle.switch_defs.specs.Decide.{decide}
@@ -28,8 +29,57 @@ abbrev pub sent_lines : List Sent → List ℕ
 sent_lines [] = []
 sent_lines (sent ∷ rest) = sent_line sent ++ sent_lines rest
 
+-- the names of the lines at which a frame is dropped
+abbrev pub frame_drop : ℕ → List ℕ
+frame_drop line =
+    if line == 1 then codes "elsewhere"
+    else if line == 2 then codes "group-source"
+    else if line == 3 then codes "down"
+    else if line == 4 then codes "eapol-short"
+    else if line == 5 then codes "key"
+    else if line == 6 then codes "eapol-type"
+    else if line == 7 then codes "body-short"
+    else if line == 8 then codes "eap-short"
+    else if line == 9 then codes "eap-code"
+    else if line == 10 then codes "eap-length"
+    else if line == 11 then codes "not-response"
+    else if line == 12 then codes "forced"
+    else if line == 13 then codes "no-session"
+    else if line == 14 then codes "port-full"
+    else []
+
+-- those at which a datagram of the RADIUS server is dropped
+abbrev pub answer_drop : ℕ → List ℕ
+answer_drop line =
+    if line == 1 then codes "malformed"
+    else if line == 2 then codes "no-request"
+    else if line == 3 then codes "bad-code"
+    else if line == 4 then codes "bad-authenticator"
+    else if line == 5 then codes "bad-message-auth"
+    else if line == 6 then codes "oversize"
+    else if line == 7 then codes "bad-eap"
+    else []
+
+-- those at which a dynamic request is dropped
+abbrev pub request_drop : ℕ → List ℕ
+request_drop line =
+    if line == 1 then codes "stranger"
+    else if line == 2 then codes "malformed"
+    else if line == 3 then codes "oversize"
+    else if line == 4 then codes "bad-code"
+    else if line == 5 then codes "bad-authenticator"
+    else if line == 6 then codes "bad-message-auth"
+    else if line == 8 then codes "stale"
+    else []
+
 abbrev pub outcome_text : Outcome → List ℕ
 outcome_text Done = codes "ok"
+outcome_text (FrameDropped line) = codes "drop " ++ frame_drop line
+outcome_text (AnswerDropped line) = codes "drop " ++ answer_drop line
+outcome_text Acked = codes "ack"
+outcome_text (Naked cause) = codes "nak " ++ decimal cause
+outcome_text Again = codes "again"
+outcome_text (RequestDropped line) = codes "drop " ++ request_drop line
 
 -- `c RECORD @LANE SERIAL OUTCOME`
 abbrev pub control_line : ℕ → ℕ → ℕ → Outcome → List ℕ

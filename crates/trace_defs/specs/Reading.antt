@@ -1,7 +1,7 @@
 -- What is known of a trace of which these octets were given so far.
 use Rattle.std.specs.Prelude.{◌≡◌, ℕ, List}
 use Rattle.wire_defs.specs.Text.{ended_lines, open_line}
-use Rattle.switch_defs.specs.Switch.{Config}
+use Rattle.switch_event.specs.Config.{Config}
 use Rattle.trace_defs.specs.Trace.{Progress, Reading, read_lines, start}
 use Rattle.trace_defs.specs.Trace.Reading.{Going}
 

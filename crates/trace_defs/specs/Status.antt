@@ -2,6 +2,7 @@
 use Rattle.std.specs.Prelude.{ℕ, ◌==◌, if◌then◌else◌, List, [], ◌∷◌, ◌++◌, codes}
 use Rattle.std.specs.List.{concat}
 use Rattle.std.specs.Fmt.{decimal}
+use Rattle.trace_defs.specs.Reason.{reason_name}
 use Rattle.trace_defs.specs.Output.{line_feed}
 
 -- of 0 nothing, of 3 what `refusal_text` has, of any other its name
@@ -14,10 +15,6 @@ status_text status =
     else if status == 6 then codes "full: 1048576" ++ line_feed
     else if status == 8 then codes "too long: 67108864" ++ line_feed
     else []
-
--- the name of a reason to refuse a line
-abbrev pub reason_name : ℕ → List ℕ
-reason_name reason = if reason == 14 then codes "unbuilt" else []
 
 -- `line N: NAME`
 abbrev pub refusal_text : (line reason : ℕ) → List ℕ

@@ -1,3 +1,5 @@
 mod PortLemmas
 mod PrintLemmas
 mod WordLemmas
+mod HexLemmas
+mod TextLemmas

@@ -7,8 +7,8 @@ use Rattle.std.proofs.lemmas.List.Folds.{list_all-append}
 use Rattle.std.proofs.lemmas.Map.Keys.{IsDistinct-push, IsDistinct-cons}
 use Rattle.std.proofs.lemmas.Map.Steps.{length-le_from_distinct_below}
 use Rattle.std.proofs.lemmas.Bool.Decides.{nat_tests}
-use Rattle.switch_defs.specs.declared.PortConf.{PortConf}
-use Rattle.trace_lang.specs.Meaning.{ArePorts, HaveVlans}
+use Rattle.switch_event.specs.declared.config.PortConf.{PortConf}
+use Rattle.switch_event.specs.Config.{ArePorts, HaveVlans}
 
 abbrev number : PortConf → ℕ
 number p = p.port

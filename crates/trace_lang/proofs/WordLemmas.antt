@@ -6,7 +6,7 @@ use Rattle.std.proofs.lemmas.List.Elements.{All-from_get_or}
 use Rattle.std.proofs.lemmas.List.Splits.{slice_split_at, slice_split_none, length-slice_split}
 use Rattle.std.proofs.lemmas.Bool.Decides.{nat_tests}
 use Rattle.wire_defs.specs.Text.{words}
-use Rattle.trace_defs.specs.Line.{four_of}
+use Rattle.trace_defs.specs.Word.{four_of}
 use Rattle.trace_lang.specs.Words.{IsPartLen}
 
 is_other : (x : ℕ) → x ≢ 32 → eqb x 32 ≡ false

@@ -1,13 +1,12 @@
--- Control events, as the definitions of the switch have them.
-use Rattle.switch_defs.specs.Switch.{Event as Happening}
-use Rattle.switch_defs.specs.Switch.Event.{Link as LinkEvent}
-use Rattle.trace_lang.specs.declared.event.Event.{Event}
-use Rattle.trace_lang.specs.declared.event.Event.TheVariants as event
+-- Control events that own their octets, as the definitions of the switch have them.
+use Rattle.switch_event.specs.Event.{Happening, Frame, Radius, Dynamic, Second, Link, SetControl}
 use Rattle.trace_lang.specs.declared.event.Record.{Record}
 use Rattle.trace_lang.specs.declared.event.Record.TheVariants as recorded
 
-abbrev pub event_meaning : Event → Happening
-event_meaning (event.Link port up) = LinkEvent port up
-
 abbrev pub event_of : Record → Happening
-event_of (recorded.Link port up) = LinkEvent port up
+event_of (recorded.Frame port octets) = Frame port octets
+event_of (recorded.Radius octets) = Radius octets
+event_of (recorded.Dynamic from octets) = Dynamic (record { ip = from.ip; port = from.port }) octets
+event_of recorded.Second = Second
+event_of (recorded.Link port up) = Link port up
+event_of (recorded.SetControl port control) = SetControl port control

@@ -1,9 +1,8 @@
 -- What the types of this crate mean, and what its readers answer.
-use Rattle.std.specs.Prelude.{◌≡◌, ℕ, nat_eq, ◌&&◌, nat_le, Bool, true, false, List, map, Option, Some, None, Result, Ok, Err, ⊤}
-use Rattle.std.specs.List.{list_all, IsDistinct}
-use Rattle.switch_defs.specs.declared.PortConf.{PortConf}
-use Rattle.switch_defs.specs.Switch.{Config}
-use Rattle.trace_defs.specs.Line.{unbuilt, Line as Meaning}
+use Rattle.std.specs.Prelude.{◌≡◌, ℕ, Bool, true, false, List, Option, Some, None, Result, Ok, Err, ⊤}
+use Rattle.switch_event.specs.Config.{Config}
+use Rattle.trace_defs.specs.Reason.{wrong_hex}
+use Rattle.trace_defs.specs.Line.{Line as Meaning}
 use Rattle.trace_defs.specs.Line.Line.{Blank as IsBlank, Begin as IsBegin, Sync as IsSync, Setting as IsSetting, Entry}
 use Rattle.trace_defs.specs.Line.Record.{Control as ControlEntry, Data as DataEntry}
 use Rattle.trace_lang.specs.declared.line.Line.{Line}
@@ -51,7 +50,7 @@ Sets wanted old given new given' (Err NoMemory) = AreKept old given new given'
 -- octets that a word writes
 abbrev pub Decodes : Option (List ℕ) → Result (List ℕ) LineErr → Type 0
 Decodes wanted (Ok octets) = wanted ≡ Some octets
-Decodes wanted (Err (Bad why)) = (wanted ≡ None) × (why ≡ unbuilt)
+Decodes wanted (Err (Bad why)) = (wanted ≡ None) × (why ≡ wrong_hex)
 Decodes wanted (Err NoMemory) = ⊤
 
 -- settings and `begin` stand before `begin`, records and `sync` after it
@@ -62,12 +61,3 @@ IsInPlace begun Setting = begun ≡ false
 IsInPlace begun Sync = begun ≡ true
 IsInPlace begun (Control lane what) = begun ≡ true
 IsInPlace begun (Data port octets) = begun ≡ true
-
--- the ports of settings are 1 to 60, and no two are the same
-pub record ArePorts (ports : List PortConf) : Type 0 where
-  pub in_range : list_all (λ p. nat_le 1 p.port && nat_le p.port 60) ports ≡ true
-  pub apart : IsDistinct nat_eq (map (λ p. p.port) ports)
-
--- the VLANs of ports are 1 to 4094
-abbrev pub HaveVlans : List PortConf → Type 0
-HaveVlans ports = list_all (λ p. nat_le 1 p.native && nat_le p.native 4094) ports ≡ true

@@ -3,13 +3,14 @@ ghost use Rattle.std.specs.Prelude.{◌≡◌, ◌++◌, [], ◌∷◌, OnOk, On
 ghost use Rattle.std.specs.List.{concat};
 ghost use Rattle.std.specs.Fmt.{decimal};
 ghost use Rattle.hex.specs.Hex.{encode_lower};
-ghost use Rattle.trace_defs.specs.Output.{control_block, data_line, drop_name as drop_name_lem, outcome_text, sent_line, sent_lines, line_feed};
+ghost use Rattle.trace_defs.specs.Output.{control_block, data_line, drop_name as drop_name_lem, outcome_text as outcome_text_lem, frame_drop as frame_drop_lem, answer_drop as answer_drop_lem, request_drop as request_drop_lem, sent_line, sent_lines, line_feed};
 ghost use Rattle.trace_lang.specs.Printing.{sent_of};
 ghost use Rattle.switch_defs.specs.Switch.Sent.{ToHost};
 ghost use Rattle.switch_defs.specs.declared.Decision.TheVariants.{Forward, Drop};
 
 use std::alloc::{AllocError, Global};
-use switch_defs::{Decision, Drop9, Outcome};
+use switch_defs::{Decision, Drop9};
+use switch_event::Outcome;
 
 /// What a worker decided on a data frame, after so many control events.
 #[derive(Clone, Copy, Debug, PartialEq, Eq)]
@@ -34,17 +35,84 @@ pub fn print_control(
     ensures printed { OnOk result (out.new.items ≡ out.old.items ++ control_block r lane serial o.now (sent_of sent.entry)) }
     ensures kept { OnErr result (out.new.items ≡ out.old.items) }
 {
-    let name = outcome_name(o);
+    let outcome = outcome_text(alloc, o)?;
     let lines = sent_text(alloc, sent)?;
-    let block = format!(in alloc; "c {r} @{lane} {serial} {name}\n{lines}")?;
+    let block = format!(in alloc; "c {r} @{lane} {serial} {outcome}\n{lines}")?;
     out.extend_from_slice(block.as_bytes())
 }
 
-fn outcome_name(o: &Outcome) -> &'static str
-    ensures { result.now ≡ outcome_text o.now }
+fn outcome_text(alloc: Global, o: &Outcome) -> Result<String, AllocError>
+    ensures { IfOk result (λ text. string_bytes text ≡ outcome_text_lem o.now) }
 {
     match o {
-        Outcome::Done => "ok",
+        Outcome::Done => format!(in alloc; "ok"),
+        Outcome::FrameDropped(line) => drop_text(alloc, frame_drop(*line)),
+        Outcome::AnswerDropped(line) => drop_text(alloc, answer_drop(*line)),
+        Outcome::Acked => format!(in alloc; "ack"),
+        Outcome::Naked(cause) => format!(in alloc; "nak {cause}"),
+        Outcome::Again => format!(in alloc; "again"),
+        Outcome::RequestDropped(line) => drop_text(alloc, request_drop(*line)),
+    }
+}
+
+fn drop_text(alloc: Global, name: &str) -> Result<String, AllocError>
+    ensures { IfOk result (λ text. string_bytes text ≡ codes "drop " ++ name.now) }
+{
+    format!(in alloc; "drop {name}")
+}
+
+// The names of the lines at which a frame is dropped.
+fn frame_drop(line: u8) -> &'static str
+    ensures { result.now ≡ frame_drop_lem line }
+{
+    match line {
+        1 => "elsewhere",
+        2 => "group-source",
+        3 => "down",
+        4 => "eapol-short",
+        5 => "key",
+        6 => "eapol-type",
+        7 => "body-short",
+        8 => "eap-short",
+        9 => "eap-code",
+        10 => "eap-length",
+        11 => "not-response",
+        12 => "forced",
+        13 => "no-session",
+        14 => "port-full",
+        _ => "",
+    }
+}
+
+// Those at which a datagram of the RADIUS server is dropped.
+fn answer_drop(line: u8) -> &'static str
+    ensures { result.now ≡ answer_drop_lem line }
+{
+    match line {
+        1 => "malformed",
+        2 => "no-request",
+        3 => "bad-code",
+        4 => "bad-authenticator",
+        5 => "bad-message-auth",
+        6 => "oversize",
+        7 => "bad-eap",
+        _ => "",
+    }
+}
+
+// Those at which a dynamic request is dropped.
+fn request_drop(line: u8) -> &'static str
+    ensures { result.now ≡ request_drop_lem line }
+{
+    match line {
+        1 => "stranger",
+        2 => "malformed",
+        3 => "oversize",
+        4 => "bad-code",
+        5 => "bad-authenticator",
+        6 => "bad-message-auth",
+        8 => "stale",
+        _ => "",
     }
 }
 

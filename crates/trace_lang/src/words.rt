@@ -2,7 +2,7 @@
 ghost use Rattle.std.specs.Prelude.{◌≡◌, ◌≢◌, ◌<◌, ◌==◌, ◌∷◌, [], length, slice_index, MatchOption, Some, None};
 ghost use Rattle.std.specs.List.{slice_split};
 ghost use Rattle.wire_defs.specs.Text.{words};
-ghost use Rattle.trace_defs.specs.Line.{two_of, three_of};
+ghost use Rattle.trace_defs.specs.Word.{one_of, two_of, three_of};
 ghost use Rattle.trace_lang.specs.Words.{IsPartLen};
 
 const SPACE: u8 = b' ';
@@ -17,6 +17,17 @@ pub fn first_word(text: &[u8]) -> Option<(&[u8], &[u8])>
     }
     let end = part_len(rest, SPACE);
     Some((&rest[..end], &rest[end..]))
+}
+
+/// The word of a text that has one.
+pub fn one_word(text: &[u8]) -> Option<&[u8]>
+    ensures { MatchOption result (one_of (words text.now) ≡ None) (λ found. one_of (words text.now) ≡ Some found.now) }
+{
+    let (word, rest) = first_word(text)?;
+    if first_word(rest).is_some() {
+        return None;
+    }
+    Some(word)
 }
 
 /// The words of a text that has two.

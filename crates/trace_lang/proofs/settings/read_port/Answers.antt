@@ -1,9 +1,9 @@
 use Rattle.std.proofs.Common.{◌≡◌, false, eqb, sym, ap, ◌∙◌, subst, lit<, length, ◌<◌, ◌++◌, ◌∷◌, []}
 use Rattle.std.specs.List.{list_any}
-use Rattle.switch_defs.specs.declared.PortConf.{PortConf}
-use Rattle.trace_lang.specs.Meaning.{ArePorts, HaveVlans}
+use Rattle.switch_event.specs.declared.config.PortConf.{PortConf}
+use Rattle.switch_event.specs.Config.{ArePorts, HaveVlans}
 use Rattle.trace_lang.proofs.PortLemmas.{ArePorts-more, ArePorts-room, HaveVlans-more}
-use Rattle.trace_lang.proofs.line.read_port.Goals as goal
+use Rattle.trace_lang.proofs.settings.read_port.Goals as goal
 
 pub push-requires : goal.push-requires
 push-requires c =
