@@ -1,5 +1,1 @@
-mod FateLemmas
-mod PortLemmas
-mod RecordLemmas
-mod StepLemmas
 mod TopLemmas

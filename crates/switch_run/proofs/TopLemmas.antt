@@ -1,14 +1,14 @@
 -- What the end of a run says of a text that the source tells.
 use Rattle.std.proofs.Common.{inl, inr, ◌+◌, ◌≡◌, ℕ, List, ◌++◌, Option, None, Some, IfSome, refl, sym, ap, ◌∙◌, subst, append-nil, arith}
 use Rattle.std.specs.Io.KnownBytes.{Appends, Consumes, IsAtEnd}
-use Rattle.switch_defs.specs.Switch.{Config}
+use Rattle.switch_event.specs.Config.{Config}
 use Rattle.trace_defs.specs.Trace.{fate, whole, trace_of, progress_of, reason_of}
 use Rattle.trace_defs.specs.Output.{plain}
-use Rattle.switch_run.specs.declared.run.Ending.{Ending}
-use Rattle.switch_run.specs.declared.run.Ending.TheVariants.{Done, NoMemory, Refused, ReadFault, WriteFault, Full, TooLong}
-use Rattle.switch_run.specs.Run.{IsRefusedAt, EndsByFate, RunEnds, status_of, ending_text}
+use Rattle.race_run.specs.declared.ending.Ending.{Ending}
+use Rattle.race_run.specs.declared.ending.Ending.TheVariants.{Done, NoMemory, Refused, ReadFault, WriteFault, Full, TooLong}
+use Rattle.race_run.specs.Run.{IsRefusedAt, EndsByFate, RunEnds, status_of, ending_text}
 use Rattle.trace_defs.specs.Status.{status_text, refusal_text}
-use Rattle.switch_run.specs.Streams.{Says}
+use Rattle.race_run.specs.Streams.{Says}
 use Rattle.switch_run.specs.Top.{IsByText, IsStatus}
 
 -- the octets given and those left are the text

@@ -1,7 +1,7 @@
 -- What the contract of the top call cites.
 use Rattle.std.specs.Prelude.{◌≡◌, ℕ, ◌∷◌, [], ◌⊎◌, List, Bool, false, codes}
 use Rattle.std.specs.Str.{bytes_eq}
-use Rattle.switch_defs.specs.Switch.{Config}
+use Rattle.switch_event.specs.Config.{Config}
 use Rattle.trace_defs.specs.Reading.{ended_reading}
 use Rattle.trace_defs.specs.Trace.{progress_of}
 use Rattle.trace_defs.specs.Output.{plain}

@@ -1,14 +1,6 @@
 //! `switch_run`: the access-control half of a wired switch, over a trace.
 #![tactic(auto)]
 
-mod authenticator;
-mod decision;
-mod entry;
-mod greeting;
-mod ports;
-mod refusal;
-mod run;
-mod streams;
 #[cfg(test)]
 mod tests;
 mod top;

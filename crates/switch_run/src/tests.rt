@@ -1,17 +1,15 @@
 // What the program prints for whole traces, and where the outside fails.
 ghost use Rattle.std.specs.Prelude.{◌≤◌};
 
-use crate::run::{Ending, replay_within};
 use crate::top::switch_top;
 use outside_core::{MemSink, MemSource};
-use std::alloc::AllocError;
+use std::alloc::{AllocError, Global};
 use std::test::Fail;
-use trace_lang::Config;
 
 const ROOM: usize = 1 << 16;
 
 const SETTINGS: &str =
-    "server 192.0.2.20 1812 736563726574\nport 1 10 auto\nport 2 20 force-auth\nport 3 30 force-unauth\nbegin\n";
+    "nas 192.0.2.10 sw1\nserver 192.0.2.20 1812 736563726574\nclient 192.0.2.30 64796e\nport 1 10 auto\nport 2 20 force-auth\nport 3 30 force-unauth\nbegin\n";
 
 // The status of a run, and what was taken by the output and by standard error.
 #[derive(Drop)]
@@ -114,13 +112,13 @@ fn each_drop_has_its_name(rt: HostRuntime) -> Result<(), Fail> {
 fn a_refused_line_has_its_number_and_the_phases_before_it_stand(
     rt: HostRuntime,
 ) -> Result<(), Fail> {
-    let rows: [(&str, &str, &str); 5] = [
+    let rows: [(&str, &str, &str); 8] = [
         (
-            "server 192.0.2.20 1812 736563726574\nport 1 10 auto\nport 2 20 force-auth\nport 3 30 force-unauth\n",
+            "nas 192.0.2.10 sw1\nserver 192.0.2.20 1812 736563726574\nclient 192.0.2.30 64796e\nport 1 10 auto\nport 2 20 force-auth\nport 3 30 force-unauth\n",
             "",
-            "line 5: unbuilt\n",
+            "line 7: missing\n",
         ),
-        ("", "", "line 1: unbuilt\n"),
+        ("", "", "line 1: missing\n"),
         (
             "server 192.0.2.20 1812 73\nport 3 30 force-unauth\nbegin\n# a comment\nlink 3 down\nsync\ntick\nlink 3 down\n",
             "c 1 @1 0 ok\n",
@@ -129,15 +127,32 @@ fn a_refused_line_has_its_number_and_the_phases_before_it_stand(
         (
             "server 192.0.2.20 1812 73\r\nport 3 30 force-unauth\r\nbegin\r\n\r\nlink 3 down\r\n\r\r\n",
             "",
-            "line 6: unbuilt\n",
+            "line 6: octet\n",
         ),
-        ("server 192.0.2.256 1812 73\n", "", "line 1: unbuilt\n"),
+        ("server 192.0.2.256 1812 73\n", "", "line 1: number\n"),
+        (
+            "server 192.0.2.20 1812 73\nport 1 10 auto\nport 1 10 auto\nbegin\n",
+            "",
+            "line 3: twice\n",
+        ),
+        (
+            "server 192.0.2.20 1812 73\nport 1 10 auto\nbegin\n@2 frame 1 ffffffffffff0200000000aa08004500\n",
+            "",
+            "line 4: lane\n",
+        ),
+        (
+            "server 192.0.2.20 1812 73\nport 1 10 auto\nbegin\n@2 link 1 up\n@4 tick",
+            "",
+            "line 5: lane\n",
+        ),
     ];
     for (text, printed, said) in rows {
-        let ran = run(&rt, &["replay"], text.as_bytes(), 7)?;
-        assert_eq!(rt; ran.status, 3, "at {text}");
-        assert_eq!(rt; ran.out.as_slice(), printed.as_bytes(), "at {text}");
-        assert_eq!(rt; ran.err.as_slice(), said.as_bytes(), "at {text}");
+        for step in [1, 4096] {
+            let ran = run(&rt, &["replay"], text.as_bytes(), step)?;
+            assert_eq!(rt; ran.status, 3, "at {text}");
+            assert_eq!(rt; ran.out.as_slice(), printed.as_bytes(), "at {text}");
+            assert_eq!(rt; ran.err.as_slice(), said.as_bytes(), "at {text}");
+        }
     }
     let usage = run(&rt, &["replay", "x"], b"begin\n", 1)?;
     assert_eq!(rt; usage.status, 2);
@@ -173,26 +188,46 @@ fn a_source_or_a_sink_that_fails_ends_the_run(rt: HostRuntime) -> Result<(), Fai
 }
 
 #[test]
-fn a_trace_past_its_limits_is_not_run(rt: HostRuntime) -> Result<(), Fail> {
-    let text =
-        b"server 192.0.2.20 1812 73\nport 3 30 force-unauth\nbegin\nlink 3 down\nsync\nlink 3 down\nlink 3 down\n";
-    let rows: [(usize, u64, Ending); 3] = [
-        (text.len(), 3, Ending::Done),
-        (text.len() - 1, 3, Ending::TooLong),
-        (text.len(), 2, Ending::Full),
-    ];
-    for (limit, room, ending) in rows {
-        let mut source = MemSource::new(rt.alloc(), text, 4096, &[])?;
-        let mut out = MemSink::new(rt.alloc(), ROOM, &[])?;
-        let ended = replay_within(
-            rt.alloc(),
-            limit,
-            room,
-            Config::empty(),
-            &mut source,
-            &mut out,
+fn the_phases_before_a_refused_line_are_written(rt: HostRuntime) -> Result<(), Fail> {
+    let text = format!(in rt.alloc(); "{SETTINGS}link 1 up\nsync\nlink 2 up\nsync\nlink 61 up")?;
+    for step in [1, 4096] {
+        let ran = run(&rt, &["replay"], text.as_bytes(), step)?;
+        assert_eq!(rt; ran.status, 3);
+        assert_eq!(rt;
+            ran.out.as_slice(),
+            b"c 1 @1 0 ok\nf 1 0180c2000003020000010101888e020000050100000501\nc 2 @1 1 ok\nf 2 0180c2000003020000010102888e0200000403000004\n".as_slice()
         );
-        assert_eq!(rt; ended, ending, "at {limit} {room}");
+        assert_eq!(rt; ran.err.as_slice(), b"line 12: number\n".as_slice());
+    }
+    Ok(())
+}
+
+// The settings, and then a line so many times.
+fn repeated(alloc: Global, line: &str, count: u32) -> Result<Vec<u8>, AllocError> {
+    let mut text = SETTINGS.as_bytes().to_vec(alloc)?;
+    for _ in 0..count {
+        text.extend_from_slice(line.as_bytes())?;
+    }
+    Ok(text)
+}
+
+#[test]
+fn a_history_and_a_text_have_their_limits(rt: HostRuntime) -> Result<(), Fail> {
+    let rows = [
+        ("link 1 up\n", 1_048_577, 6, "full: 1048576\n"),
+        (
+            "# a comment of thirty-two octets\n",
+            2_033_601,
+            8,
+            "too long: 67108864\n",
+        ),
+    ];
+    for (line, count, status, said) in rows {
+        let text = repeated(rt.alloc(), line, count)?;
+        let ran = run(&rt, &["replay"], &text, 4096)?;
+        assert_eq!(rt; ran.status, status, "at {said}");
+        assert_eq!(rt; ran.out.as_slice(), b"".as_slice(), "at {said}");
+        assert_eq!(rt; ran.err.as_slice(), said.as_bytes(), "at {said}");
     }
     Ok(())
 }

@@ -2,18 +2,16 @@
 ghost use Rattle.std.specs.Prelude.{◌≡◌, ◌≢◌, ◌≤◌, ◌<◌, ◌+◌, ◌^◌, ◌↔◌, ◌++◌, ℕ, List, [], ◌∷◌, Option, IfSome, map, string_bytes, IsTrue, true, false};
 ghost use Rattle.std.specs.Io.KnownBytes.{Appends, Keeps, Consumes, IsAtEnd};
 ghost use Rattle.wire_defs.specs.Outside.{Rose};
-ghost use Rattle.switch_defs.specs.Switch.{empty};
+ghost use Rattle.switch_event.specs.Config.{empty};
 ghost use Rattle.trace_defs.specs.Trace.{fate, whole, trace_of, progress_of, reason_of};
 ghost use Rattle.trace_defs.specs.Output.{plain};
 ghost use Rattle.trace_defs.specs.Status.{status_text, refusal_text};
-ghost use Rattle.switch_run.specs.Streams.{Says};
-ghost use Rattle.switch_run.specs.Run.{status_of, ending_text, HalfWritten};
+ghost use Rattle.race_run.specs.Streams.{Says};
+ghost use Rattle.race_run.specs.Run.{HalfWritten};
 ghost use Rattle.switch_run.specs.Top.{is_replay as is_replay_lem, IsByText, IsStatus, ended_output};
 
-use crate::refusal::{refusal, status_words};
-use crate::run::{Ending, replay_within};
-use crate::streams::say;
 use outside_core::{Sink, Source};
+use race_run::{replay_within, say, say_ending, status, status_words};
 use std::alloc::Global;
 use trace_lang::Config;
 
@@ -77,34 +75,11 @@ pub fn switch_top<S: Source, K: Sink>(
     status(ending)
 }
 
-fn say_ending<K: Sink>(err: &mut K, ending: Ending)
-    ensures said { Says (K.taken err.old) (K.taken err.new) (K.faults err.old) (K.faults err.new) (ending_text ending) }
-{
-    match ending {
-        Ending::Refused { line, why } => say(err, &refusal(line, why)),
-        _ => say(err, status_words(status(ending))),
-    }
-}
-
 fn is_replay(words: &[String]) -> bool
     ensures { result ≡ is_replay_lem (map string_bytes words.now) }
 {
     match words {
         [word] => word.as_str() == "replay",
         _ => false,
-    }
-}
-
-fn status(ending: Ending) -> u8
-    ensures { result ≡ status_of ending }
-{
-    match ending {
-        Ending::Done => 0,
-        Ending::NoMemory => 1,
-        Ending::Refused { .. } => 3,
-        Ending::ReadFault => 4,
-        Ending::WriteFault => 5,
-        Ending::Full => 6,
-        Ending::TooLong => 8,
     }
 }

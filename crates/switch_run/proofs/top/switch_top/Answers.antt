@@ -1,5 +1,5 @@
 use Rattle.std.proofs.Common.{◌∙◌, sym, subst}
-use Rattle.switch_defs.specs.Switch.{empty}
+use Rattle.switch_event.specs.Config.{empty}
 use Rattle.switch_run.specs.Top.{IsStatus}
 use Rattle.switch_run.specs.declared.top.TheConstants.{MOST_OCTETS, MOST_CONTROLS}
 use Rattle.switch_run.proofs.TopLemmas.{ends_by_text, fate_by_text, output_by_text, said_of, refused_of, is_status, read_fault_only, write_fault_only, by_text_else}

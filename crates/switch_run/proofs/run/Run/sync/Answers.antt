@@ -1,8 +1,0 @@
-use Rattle.switch_run.proofs.StepLemmas.{Steps-sync, Halts-sync}
-use Rattle.switch_run.proofs.run.Run.sync.Goals as goal
-
-pub returns-in-Ok-clause-ok : goal.returns-in-Ok-clause-ok
-returns-in-Ok-clause-ok g c = λ room. Steps-sync room _ _ c.args.self.now c.end_phase.new.self c.in-Ok.ensures.ok
-
-pub returns-in-Err-clause-err : goal.returns-in-Err-clause-err
-returns-in-Err-clause-err g c = λ room. Halts-sync room _ _ c.args.self.now c.in-Err.ending c.in-Err.ensures.err
