@@ -4,3 +4,4 @@ pub mod Digest
 pub mod Attributes
 pub mod Message
 pub mod Grant
+pub mod Parsed

@@ -1,5 +1,6 @@
 //! A packet that was read, and its parts.
-ghost use Rattle.std.specs.Prelude.{◌≡◌, ◌==◌, ℕ, count_by, find, if◌then◌else◌, is_some, slice_get, Result, Some, None};
+ghost use Rattle.std.specs.Prelude.{◌≡◌, ◌≤◌, ◌==◌, ℕ, length, count_by, find, if◌then◌else◌, is_some, slice_get, Result, Some, None};
+ghost use Rattle.std.specs.List.{All};
 ghost use Rattle.std.specs.Option.{option_map, option_or};
 ghost use Rattle.radius_defs.specs.Packet.{Packet as Parts, PacketOf, Fits, packet_text, first_value, eap_of};
 ghost use Rattle.radius_defs.specs.declared.RadDrop.{RadDrop};
@@ -41,10 +42,11 @@ impl<'a> Model for Packet<'a> {
 }
 
 impl<'a> Packet<'a> {
-    /// The attributes, in order.
+    /// The attributes, in order. Each value has at most 253 octets.
     pub fn attributes(&self) -> Attributes<'a>
         ensures same { result ≡ self.now.attributes }
         ensures fits { Fits self.now }
+        ensures short { All (λ a. length a.value ≤ 253) result }
     {
         let (_header, body) = self.octets.split_at(20);
         Attributes::new(body)

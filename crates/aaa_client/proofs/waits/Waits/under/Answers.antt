@@ -1,0 +1,29 @@
+use Rattle.std.proofs.Common.{◌≡◌, ◌∙◌, ap, sym, List, Some, arith, get_or}
+use Rattle.std.proofs.lemmas.List.{get_or_default}
+use Rattle.aaa_defs.specs.Waits.{Pending, pending_under}
+use Rattle.aaa_client.specs.Places.{place, no_request}
+use Rattle.aaa_client.proofs.Places.{same-some, identifier-request, identifier-nothing}
+use Rattle.aaa_client.proofs.waits.Waits.under.Goals as goal
+use Rattle.aaa_client.proofs.waits.Waits.under.Goals.{in_default-via-in-Some+else-found-id, in_default-via-in_default}
+
+pub returns-in-Some : goal.returns-in-Some
+returns-in-Some c =
+    let places : List Pending = c.self.inside.places.items in
+    let read : c.index-request.result.now ≡ place places c.args.id =
+    c.index-request.ensures ∙ ap (λ k. get_or places k c.index-request.result.now) c.from.ensures ∙ get_or_default places c.args.id c.index-request.result.now no_request (omega (arith, c.self.invariant.all)) in
+    ap (λ (p : Pending). Some p) read
+    ∙ sym (identifier-request places c.self.inside.order c.session.result c.args.id c.self.invariant.agree (ap (λ k. Some k) (sym c.if-found-id.true) ∙ c.in-Some.ensures.found))
+    ∙ ap (pending_under c.args.id) c.self.view_is
+
+pub returns-in_default : goal.returns-in_default
+returns-in_default c =
+    let places : List Pending = c.self.inside.places.items in
+    let read : c.index-request.result.now ≡ place places c.args.id =
+    c.index-request.ensures ∙ ap (λ k. get_or places k c.index-request.result.now) c.from.ensures ∙ get_or_default places c.args.id c.index-request.result.now no_request (omega (arith, c.self.invariant.all)) in
+    let session : c.session.result ≡ (place places c.args.id).session = c.session.ensures ∙ ap (λ (p : Pending). p.session) read in
+    let other : c.find.result ≡ Some c.args.id → ⊥ = λ found. elim c.in_default.branch [
+      | in_default-via-in-Some+else-found-id w ↦ w.if-found-id.false (same-some w.in-Some.found c.args.id (sym w.in-Some.is ∙ found))
+      | in_default-via-in_default w ↦ w.in_default.not-Some c.args.id found
+    ] in
+    sym (identifier-nothing places c.self.inside.order c.session.result c.args.id c.find.ensures.rising c.self.invariant.agree session (λ is. other (c.find.ensures.found ∙ sym is)))
+    ∙ ap (pending_under c.args.id) c.self.view_is

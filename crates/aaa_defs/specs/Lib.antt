@@ -1,0 +1,4 @@
+pub mod Request
+pub mod Waits
+pub mod Age
+pub mod Answer
