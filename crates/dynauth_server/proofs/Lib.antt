@@ -1,0 +1,5 @@
+pub mod SessionLemmas
+pub mod AnswerLemmas
+pub mod JudgeLemmas
+pub mod ReplyLemmas
+pub mod RollLemmas

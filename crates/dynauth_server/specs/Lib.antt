@@ -1,0 +1,4 @@
+pub mod Roll
+pub mod Judged
+pub mod Stages
+pub mod Replies
