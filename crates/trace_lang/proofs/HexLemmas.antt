@@ -1,22 +1,14 @@
 -- Octets that a word of hexadecimal digits writes, where there are some.
 use Rattle.std.proofs.Math.Seq.{take-append_seam}
 use Rattle.std.specs.Prelude.{MatchResult}
-use Rattle.std.proofs.Common.{◌≡◌, ℕ, ◌++◌, take, drop, ◌*◌, ◌/◌, ◌<◌, ◌≤◌, Bool, ◌&&◌, true, false, cond, leb, ltb, eqb, ◌⊎◌, inl, inr, List, [], ◌∷◌, length, codes, Some, None, Result, Ok, Err, refl, sym, ap, ◌∙◌, subst, arith}
+use Rattle.std.proofs.Common.{◌≡◌, ℕ, ◌++◌, take, drop, ◌*◌, ◌/◌, ◌<◌, ◌≤◌, Bool, ◌&&◌, true, false, cond, leb, ltb, eqb, ◌⊎◌, inl, inr, List, [], length, codes, Some, None, Result, Ok, Err, refl, sym, ap, ◌∙◌, subst, arith}
 use Rattle.std.specs.Str.{bytes_eq}
 use Rattle.std.proofs.lemmas.Bool.Decides.{nat_tests}
 use Rattle.hex.specs.Hex.{decode_of, decode_sized}
 use Rattle.hex.specs.declared.error.FromHexError.{FromHexError}
 use Rattle.hex.proofs.HexLemmas.{decode_of-ok, decode_sized-ok, decode_sized-twice}
+use Rattle.trace_defs.proofs.OctetText.{dash_is_one}
 use Rattle.trace_defs.specs.Word.{hex_in, sized, decoded}
-
-dash_is_one : (text : List ℕ) → bytes_eq text (codes "-") ≡ true → length text ≡ 1
-dash_is_one [] h = absurd (cc)
-dash_is_one (x ∷ []) h = refl
-dash_is_one (x ∷ y ∷ rest) h = absurd (longer (eqb x 45) h)
-  where
-    longer : (b : Bool) → (b && false) ≡ true → ⊥
-    longer true h = cc
-    longer false h = cc
 
 none_short : (least most n : ℕ) (octets : List ℕ) → n < least → cond (leb least n && leb n most) (Some octets) None ≡ None
 none_short least most n octets h = grind (arith, nat_tests)

@@ -1,5 +1,5 @@
 -- The words of a text, one after another.
-use Rattle.std.proofs.Common.{◌≡◌, ◌≢◌, ℕ, zero, suc, ◌+◌, ◌-◌, ◌<◌, ◌≤◌, true, false, cond, eqb, ltb, List, [], ◌∷◌, ◌++◌, length, take, drop, get_or, filter, refl, sym, ap, ◌∙◌, subst, arith, take-append-drop, length-drop, add-one, drop-cons, None}
+use Rattle.std.proofs.Common.{◌≡◌, ◌≢◌, ℕ, zero, suc, ◌+◌, ◌-◌, ◌<◌, ◌≤◌, true, false, eqb, List, [], ◌∷◌, ◌++◌, length, take, drop, get_or, refl, sym, ap, ◌∙◌, subst, arith, take-append-drop, length-drop, add-one, drop-cons, None}
 use Rattle.std.specs.List.{slice_split, All}
 use Rattle.std.proofs.lemmas.List.{get_or-take, get_or-drop, length-take-le, take_all}
 use Rattle.std.proofs.lemmas.List.Elements.{All-from_get_or}
@@ -7,30 +7,17 @@ use Rattle.std.proofs.lemmas.List.Splits.{slice_split_at, slice_split_none, leng
 use Rattle.std.proofs.lemmas.Bool.Decides.{nat_tests}
 use Rattle.wire_defs.specs.Text.{words}
 use Rattle.trace_defs.specs.Word.{four_of}
+use Rattle.trace_defs.proofs.PlainWords.{words-space, words-last}
 use Rattle.trace_lang.specs.Words.{IsPartLen}
 
-is_other : (x : ℕ) → x ≢ 32 → eqb x 32 ≡ false
-is_other x h = grind (arith, nat_tests)
-
-is_some_long : (n : ℕ) → 0 < n → ltb 0 n ≡ true
-is_some_long n h = grind (arith, nat_tests)
-
-others : (text : List ℕ) (n : ℕ) → n ≤ length text → ((k : ℕ) → k < n → get_or text k 0 ≢ 32) → All (λ x. eqb x 32 ≡ false) (take n text)
-others text n h before = All-from_get_or (λ x. eqb x 32 ≡ false) (take n text) 0 (λ i short.
+-- the parts of a text round a separator
+others_at : (separator : ℕ) (text : List ℕ) (n : ℕ) → n ≤ length text → ((k : ℕ) → k < n → get_or text k 0 ≢ separator) → All (λ x. eqb x separator ≡ false) (take n text)
+others_at separator text n h before = All-from_get_or (λ x. eqb x separator ≡ false) (take n text) 0 (λ i short.
     let low : i < n = omega (arith, length-take-le n text h) in
-    subst (λ x. eqb x 32 ≡ false) (sym (get_or-take n text i 0 low)) (is_other (get_or text i 0) (before i low)))
-
-kept : (word : List ℕ) (parts : List (List ℕ)) → 0 < length word → filter (λ w. ltb 0 (length w)) (word ∷ parts) ≡ word ∷ filter (λ w. ltb 0 (length w)) parts
-kept word parts h = ap (λ b. cond b (word ∷ filter (λ w. ltb 0 (length w)) parts) (filter (λ w. ltb 0 (length w)) parts)) (is_some_long (length word) h)
-
--- a word that a space follows
-words-space : (word rest : List ℕ) → All (λ x. eqb x 32 ≡ false) word → 0 < length word → words (word ++ 32 ∷ rest) ≡ word ∷ words (32 ∷ rest)
-words-space word rest plain some =
-    ap (filter (λ w. ltb 0 (length w))) (slice_split_at (λ x. eqb x 32) word 32 rest plain refl) ∙ kept word (slice_split (λ x. eqb x 32) rest) some
-
--- a word that ends a text
-words-last : (word : List ℕ) → All (λ x. eqb x 32 ≡ false) word → 0 < length word → words word ≡ word ∷ []
-words-last word plain some = ap (filter (λ w. ltb 0 (length w))) (slice_split_none (λ x. eqb x 32) word plain) ∙ kept word [] some
+    subst (λ x. eqb x separator ≡ false) (sym (get_or-take n text i 0 low)) (differs (get_or text i 0) (before i low)))
+  where
+    differs : (x : ℕ) → x ≢ separator → eqb x separator ≡ false
+    differs x h = grind (arith, nat_tests)
 
 plus_none : (n : ℕ) → n + 0 ≡ n
 plus_none n = omega arith
@@ -44,7 +31,7 @@ words-cut text n h some =
     cut [] e =
         let short : length text ≤ n = omega (arith, length-drop n text, ap length e) in
         let same : take n text ≡ text = take_all n text short in
-        let plain : All (λ x. eqb x 32 ≡ false) text = subst (All (λ x. eqb x 32 ≡ false)) same (others text n h.within h.before) in
+        let plain : All (λ x. eqb x 32 ≡ false) text = subst (All (λ x. eqb x 32 ≡ false)) same (others_at 32 text n h.within h.before) in
         words-last text plain (omega (arith, h.within)) ∙ ap (λ l. l ∷ []) (sym same) ∙ ap (λ l. take n text ∷ words l) (sym e)
     cut (x ∷ xs) e =
         let inside : n < length text = omega (arith, length-drop n text, ap length e) in
@@ -52,20 +39,11 @@ words-cut text n h some =
         let space : x ≡ 32 = sym first ∙ ap (λ i. get_or text i 0) (plus_none n) ∙ h.end inside in
         let tail : drop n text ≡ 32 ∷ xs = e ∙ ap (λ c. c ∷ xs) space in
         let split : text ≡ take n text ++ 32 ∷ xs = sym (take-append-drop n text) ∙ ap (λ l. take n text ++ l) tail in
-        ap words split ∙ words-space (take n text) xs (others text n h.within h.before) (omega (arith, length-take-le n text h.within)) ∙ ap (λ l. take n text ∷ words l) (sym tail)
+        ap words split ∙ words-space (take n text) xs (others_at 32 text n h.within h.before) (omega (arith, length-take-le n text h.within)) ∙ ap (λ l. take n text ∷ words l) (sym tail)
 
 pub word_is_some : (text : List ℕ) (n : ℕ) → IsPartLen 32 text n → (0 < length text → get_or text 0 0 ≢ 32) → 0 < length text → 0 < n
 word_is_some text zero h start some = absurd (start some (h.end some))
 word_is_some text (suc n) h start some = omega arith
-
--- the parts of a text round a separator
-others_at : (separator : ℕ) (text : List ℕ) (n : ℕ) → n ≤ length text → ((k : ℕ) → k < n → get_or text k 0 ≢ separator) → All (λ x. eqb x separator ≡ false) (take n text)
-others_at separator text n h before = All-from_get_or (λ x. eqb x separator ≡ false) (take n text) 0 (λ i short.
-    let low : i < n = omega (arith, length-take-le n text h) in
-    subst (λ x. eqb x separator ≡ false) (sym (get_or-take n text i 0 low)) (differs (get_or text i 0) (before i low)))
-  where
-    differs : (x : ℕ) → x ≢ separator → eqb x separator ≡ false
-    differs x h = grind (arith, nat_tests)
 
 pub split-none : (separator : ℕ) (text : List ℕ) (n : ℕ) → IsPartLen separator text n → n ≡ length text → slice_split (λ x. eqb x separator) text ≡ text ∷ []
 split-none separator text n h e =
