@@ -9,7 +9,7 @@ pub enum Control {
     ForceUnauth,
 }
 
-/// The times and limits of the machines, in seconds and attempts (IEEE Std 802.1X-2004, 8.2.4.1.2, 8.2.8.1).
+/// The times and limits of the machines, in seconds and attempts (IEEE Std 802.1X-2004, 8.2).
 #[derive(Clone, Copy, Debug, PartialEq, Eq)]
 pub struct Times {
     /// quietPeriod: how long a host is not asked again after it failed, 1 to 65,535.

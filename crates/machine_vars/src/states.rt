@@ -23,7 +23,7 @@ pub enum Pae {
     ForceUnauth,
 }
 
-/// The states of the backend machine (IEEE Std 802.1X-2004, 8.2.7).
+/// The states of the backend machine (IEEE Std 802.1X-2004, 8.2).
 #[derive(Clone, Copy, Debug, PartialEq, Eq)]
 pub enum Backend {
     /// Nothing has been done yet.
@@ -44,7 +44,7 @@ pub enum Backend {
     Fail,
 }
 
-/// The states of the reauthentication timer (IEEE Std 802.1X-2004, 8.2.8).
+/// The states of the reauthentication timer (IEEE Std 802.1X-2004, 8.2).
 #[derive(Clone, Copy, Debug, PartialEq, Eq)]
 pub enum Reauth {
     /// The time runs, or stands where it is not wanted.

@@ -1,2 +1,4 @@
 pub mod Config
 pub mod Event
+pub mod Sent
+pub mod Frames

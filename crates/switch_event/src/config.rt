@@ -1,6 +1,7 @@
-ghost use Rattle.std.specs.Prelude.{◌≡◌, ◌≤◌, ◌&&◌, nat_le, true, false, List, [], ◌∷◌, map, length, find};
-ghost use Rattle.std.specs.List.{list_all, list_any};
-ghost use Rattle.switch_event.specs.Config.{empty as empty_lem, is_among as is_among_lem, has_address as has_address_lem, has_port, has_client, is_valid, is_valid_port as is_valid_port_lem, is_valid_client as is_valid_client_lem, ports_apart as ports_apart_lem, clients_apart as clients_apart_lem, are_valid_ports as are_valid_ports_lem, are_valid_clients as are_valid_clients_lem, are_valid_names, are_valid_times as are_valid_times_lem, is_valid_clock, ArePorts, HaveVlans};
+ghost use Rattle.std.specs.Prelude.{◌≡◌};
+ghost use Rattle.std.specs.List.{list_all};
+ghost use Rattle.switch_event.specs.Config as settings;
+ghost use Rattle.switch_event.specs.Config.{within};
 
 use arrayvec::ArrayVec;
 use machine_vars::{Control, Times};
@@ -16,6 +17,10 @@ pub struct PortConf {
     pub native: u16,
     /// Its administrative control.
     pub control: Control,
+    /// The VLAN of a host that the server rejected, 1 to 4094; 0 where there is none.
+    pub restricted: u16,
+    /// The VLAN of every source while nobody has answered, 1 to 4094; 0 where there is none.
+    pub guest: u16,
 }
 
 /// Port 1 with VLAN 1, where authentication decides.
@@ -25,6 +30,8 @@ impl Default for PortConf {
             port: 1,
             native: 1,
             control: Control::Auto,
+            restricted: 0,
+            guest: 0,
         }
     }
 }
@@ -90,8 +97,12 @@ pub struct Config {
     pub ports: ArrayVec<PortConf, 60>,
     /// The times and limits of the machines.
     pub times: Times,
+    /// How many seconds an Identity request of a port is left unanswered before guests are let in, 1 to 65,535.
+    pub guest_wait: u32,
     /// By how many seconds the Event-Timestamp of a dynamic request may differ from the clock, 1 to 86,400.
     pub window: u64,
+    /// Whether the server and the clients must put a Message-Authenticator into what they send.
+    pub require_ma: bool,
     /// The second at which the clock starts, below 2^32.
     pub clock: u64,
     /// The seed of the authenticators of requests.
@@ -111,7 +122,9 @@ impl Model for Config {
       clients = c.clients.items;
       ports = c.ports.items;
       times = c.times;
+      guest_wait = c.guest_wait;
       window = c.window;
+      require_ma = c.require_ma;
       clock = c.clock;
       seed = c.seed;
     } };
@@ -120,11 +133,10 @@ impl Model for Config {
 impl Config {
     /// The settings before the first is given: the bridge address 02-00-00-01-01-00, the access server 192.0.2.10 `sw1`, the
     /// server address 0.0.0.0 with port 0, an empty secret, no client, no port, the times 60 and 30 seconds, 2 attempts, no
-    /// reauthentication, else each 3,600 seconds, a window of 300 seconds, the clock at 0 and a seed of zeros.
+    /// reauthentication, else each 3,600 seconds, guests after 30 seconds, a window of 300 seconds, a Message-Authenticator
+    /// wanted, the clock at 0 and a seed of zeros.
     pub fn empty() -> Config
-        ensures value { result ≡ empty_lem }
-        ensures ports { ArePorts result.ports }
-        ensures vlans { HaveVlans result.ports }
+        ensures { result ≡ settings.empty }
     {
         let mut name = ArrayVec::new();
         name.push(b's');
@@ -150,7 +162,9 @@ impl Config {
                 reauth_period: 3600,
                 reauth: false,
             },
+            guest_wait: 30,
             window: 300,
+            require_ma: true,
             clock: 0,
             seed: [0; 32],
         }
@@ -158,23 +172,24 @@ impl Config {
 
     /// Whether a port of this number is configured.
     pub fn has_port(&self, port: u8) -> bool
-        ensures { result ≡ has_port port self.now }
+        ensures { result ≡ settings.has_port port self.now }
     {
         is_among(port, &self.ports)
     }
 
     /// Whether a client of this address is configured.
     pub fn has_client(&self, ip: &[u8; 4]) -> bool
-        ensures { result ≡ has_client ip.now self.now }
+        ensures { result ≡ settings.has_client ip.now self.now }
     {
         has_address(ip, &self.clients)
     }
 
-    /// Whether a switch can run with these settings: the ports are 1 to 60 and differ, with VLANs from 1 to 4094; the
-    /// addresses of the clients differ; secrets have 1 to 64 octets and the name of the access server 1 to 32; the port of the
-    /// RADIUS server is not 0; the times, the window and the clock are in their ranges.
+    /// Whether a switch can run with these settings: the ports are 1 to 60 and differ, with VLANs from 1 to 4094, where the
+    /// restricted and the guest VLAN may be 0; the addresses of the clients differ; secrets have 1 to 64 octets and the name
+    /// of the access server 1 to 32; the port of the RADIUS server is not 0; the times, the waiting of guests, the window
+    /// and the clock are in their ranges.
     pub fn valid(&self) -> bool
-        ensures { result ≡ is_valid self.now }
+        ensures { result ≡ settings.is_valid self.now }
     {
         are_valid_ports(&self.ports)
             && are_valid_clients(&self.clients)
@@ -184,7 +199,7 @@ impl Config {
     }
 
     fn has_valid_names(&self) -> bool
-        ensures { result ≡ are_valid_names self.now }
+        ensures { result ≡ settings.are_valid_names self.now }
     {
         (1..=32).contains(&self.nas.name.len())
             && self.server.port >= 1
@@ -192,32 +207,40 @@ impl Config {
     }
 
     fn has_valid_clock(&self) -> bool
-        ensures { result ≡ is_valid_clock self.now }
+        ensures { result ≡ settings.is_valid_clock self.now }
     {
-        (1..=86_400).contains(&self.window) && self.clock <= 4_294_967_295
+        (1..=86_400).contains(&self.window)
+            && (1..=65_535).contains(&self.guest_wait)
+            && self.clock <= 4_294_967_295
     }
 }
 
 fn are_valid_ports(ports: &[PortConf]) -> bool
-    ensures { result ≡ are_valid_ports_lem ports.now }
+    ensures { result ≡ settings.are_valid_ports ports.now }
 {
-    each_port_valid(ports) && ports_apart(ports)
+    are_numbered(ports) && ports_apart(ports) && have_valid_vlans(ports)
 }
 
-fn each_port_valid(ports: &[PortConf]) -> bool
-    ensures { result ≡ list_all is_valid_port_lem ports.now }
+fn are_numbered(ports: &[PortConf]) -> bool
+    ensures { result ≡ list_all (λ p. within 1 60 p.port) ports.now }
 {
-    ports.iter().all(|p| is_valid_port(p))
+    ports.iter().all(|p| (1..=60).contains(&p.port))
 }
 
-fn is_valid_port(p: &PortConf) -> bool
-    ensures { result ≡ is_valid_port_lem p.now }
+fn have_valid_vlans(ports: &[PortConf]) -> bool
+    ensures { result ≡ list_all settings.has_valid_vlans ports.now }
 {
-    (1..=60).contains(&p.port) && (1..=4094).contains(&p.native)
+    ports.iter().all(|p| has_valid_vlans(p))
+}
+
+fn has_valid_vlans(p: &PortConf) -> bool
+    ensures { result ≡ settings.has_valid_vlans p.now }
+{
+    (1..=4094).contains(&p.native) && p.restricted <= 4094 && p.guest <= 4094
 }
 
 fn ports_apart(ports: &[PortConf]) -> bool
-    ensures { result ≡ ports_apart_lem ports.now }
+    ensures { result ≡ settings.ports_apart ports.now }
 {
     let mut rest = ports;
     while let [p, after @ ..] = rest {
@@ -230,31 +253,31 @@ fn ports_apart(ports: &[PortConf]) -> bool
 }
 
 fn is_among(port: u8, ports: &[PortConf]) -> bool
-    ensures { result ≡ is_among_lem port ports.now }
+    ensures { result ≡ settings.is_among port ports.now }
 {
     ports.iter().any(|p| p.port == port)
 }
 
 fn are_valid_clients(clients: &[Client]) -> bool
-    ensures { result ≡ are_valid_clients_lem clients.now }
+    ensures { result ≡ settings.are_valid_clients clients.now }
 {
     each_client_valid(clients) && clients_apart(clients)
 }
 
 fn each_client_valid(clients: &[Client]) -> bool
-    ensures { result ≡ list_all is_valid_client_lem clients.now }
+    ensures { result ≡ list_all settings.is_valid_client clients.now }
 {
     clients.iter().all(|c| is_valid_client(c))
 }
 
 fn is_valid_client(c: &Client) -> bool
-    ensures { result ≡ is_valid_client_lem c.now }
+    ensures { result ≡ settings.is_valid_client c.now }
 {
     (1..=64).contains(&c.secret.len())
 }
 
 fn clients_apart(clients: &[Client]) -> bool
-    ensures { result ≡ clients_apart_lem clients.now }
+    ensures { result ≡ settings.clients_apart clients.now }
 {
     let mut rest = clients;
     while let [c, after @ ..] = rest {
@@ -267,13 +290,13 @@ fn clients_apart(clients: &[Client]) -> bool
 }
 
 fn has_address(ip: &[u8; 4], clients: &[Client]) -> bool
-    ensures { result ≡ has_address_lem ip.now clients.now }
+    ensures { result ≡ settings.has_address ip.now clients.now }
 {
     clients.iter().any(|c| c.ip[..] == ip[..])
 }
 
 fn are_valid_times(times: &Times) -> bool
-    ensures { result ≡ are_valid_times_lem times.now }
+    ensures { result ≡ settings.are_valid_times times.now }
 {
     (1..=65_535).contains(&times.quiet)
         && (1..=65_535).contains(&times.server)

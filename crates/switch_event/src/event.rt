@@ -8,8 +8,8 @@ use wire_core::Addr;
 pub enum Event<'a> {
     /// A frame came in on a port.
     Frame { port: u8, octets: &'a [u8] },
-    /// A datagram came from the RADIUS server.
-    Radius { octets: &'a [u8] },
+    /// A datagram came from the RADIUS server to a socket, 0 to 4.
+    Radius { socket: u8, octets: &'a [u8] },
     /// A dynamic request came from an address and port of UDP.
     Dynamic { from: Addr, octets: &'a [u8] },
     /// A second has gone by.

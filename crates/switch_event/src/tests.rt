@@ -7,6 +7,8 @@ fn port(number: u8, native: u16) -> PortConf {
         port: number,
         native,
         control: Control::Auto,
+        restricted: 0,
+        guest: 0,
     }
 }
 

@@ -6,8 +6,8 @@ mod number;
 mod text;
 
 pub use address::{Addr, Mac, Room};
-pub use number::{be16, be32, decimal};
-pub use text::{station, station_of};
+pub use number::{be16, be32, decimal, four_octets, two_octets};
+pub use text::{station, station_of, upper_digit};
 
 #[cfg(test)]
 mod tests;

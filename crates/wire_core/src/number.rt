@@ -5,7 +5,7 @@ ghost use Rattle.std.specs.List.{list_all};
 ghost use Rattle.std.specs.Char.{is_ascii_digit};
 ghost use Rattle.std.specs.Str.Parse.{digits_value};
 ghost use Rattle.std.specs.Option.{SomeIff};
-ghost use Rattle.wire_defs.specs.Number.{pair_at, quad_at, number_in, is_number as is_number_lem};
+ghost use Rattle.wire_defs.specs.Number.{two_octets as two_octets_lem, four_octets as four_octets_lem, pair_at, quad_at, number_in, is_number as is_number_lem};
 
 /// The number in two octets of `b` from place `at`, the most significant first.
 /// None where fewer than two stand there.
@@ -30,6 +30,20 @@ pub fn be32(b: &[u8], at: usize) -> Option<u32>
         ),
         _ => None,
     }
+}
+
+/// A number as two octets, the most significant first.
+pub fn two_octets(n: u16) -> [u8; 2]
+    ensures { result ≡ two_octets_lem n }
+{
+    n.to_be_bytes()
+}
+
+/// A number as four octets, the most significant first.
+pub fn four_octets(n: u32) -> [u8; 4]
+    ensures { result ≡ four_octets_lem n }
+{
+    n.to_be_bytes()
 }
 
 /// The number that decimal digits write, from `least` to `most`. None where the text is no run of

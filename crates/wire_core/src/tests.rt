@@ -1,6 +1,6 @@
 //! What no clause says: texts and octets as they are known outside.
 
-use crate::{Mac, be16, be32, decimal, station, station_of};
+use crate::{Mac, be16, be32, decimal, four_octets, station, station_of, two_octets, upper_digit};
 use arrayvec::ArrayVec;
 
 #[test]
@@ -15,6 +15,14 @@ fn numbers_are_read_where_all_their_octets_stand(rt: HostRuntime) {
     assert_eq!(rt; be32(&octets, 2), None);
     assert_eq!(rt; be32(&octets, usize::MAX), None);
     assert_eq!(rt; be32(&[0xff; 4], 0), Some(4_294_967_295));
+}
+
+#[test]
+fn numbers_are_written_the_most_significant_octet_first(rt: HostRuntime) {
+    assert_eq!(rt; two_octets(0x888e), [0x88, 0x8e]);
+    assert_eq!(rt; four_octets(0x0102_888e), [1, 2, 0x88, 0x8e]);
+    assert_eq!(rt; upper_digit(9), b'9');
+    assert_eq!(rt; upper_digit(15), b'F');
 }
 
 #[test]

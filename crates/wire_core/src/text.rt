@@ -31,7 +31,8 @@ fn push_octet(octet: u8, out: &mut ArrayVec<u8, 17>)
     out.push(upper_digit(octet % 16));
 }
 
-fn upper_digit(number: u8) -> u8
+/// The hexadecimal digit of a number below 16, A to F in upper case.
+pub fn upper_digit(number: u8) -> u8
     requires { number < 16 }
     ensures { result ≡ upper_digit_lem number }
 {
