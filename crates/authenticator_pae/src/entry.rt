@@ -1,7 +1,7 @@
 // What each state does as it is entered (IEEE Std 802.1X-2004, 8.2.4).
 
 ghost use Rattle.std.specs.Prelude.{◌≡◌, ◌<◌};
-ghost use Rattle.machine_vars.specs.PaeTable.{initialize, disconnected, restart, connecting, authenticating, authenticated, aborting, held, force_auth, force_unauth};
+ghost use Rattle.machine_defs.specs.PaeTable.{initialize, disconnected, restart, connecting, authenticating, authenticated, aborting, held, force_auth, force_unauth};
 
 use machine_vars::{Control, Pae, Vars};
 

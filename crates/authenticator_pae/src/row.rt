@@ -1,6 +1,6 @@
-ghost use Rattle.std.specs.Prelude.{◌≡◌, ◌<◌, Some, None, true};
-ghost use Rattle.machine_vars.specs.Table.{TakesFirst};
-ghost use Rattle.machine_vars.specs.PaeTable.{pae_table, no_global};
+ghost use Rattle.std.specs.Prelude.{◌≡◌, ◌<◌, Some, None, true, false};
+ghost use Rattle.machine_defs.specs.Table.{TakesFirst};
+ghost use Rattle.machine_defs.specs.PaeTable.{pae_table, no_global};
 ghost use Rattle.machine_vars.specs.declared.states.Pae.TheVariants.{Connecting, Authenticating, Authenticated, Aborting};
 
 use crate::entry::{
@@ -11,12 +11,15 @@ use crate::entry::{
 use machine_vars::{Control, Pae, Row, Vars};
 
 /// Takes the enabled row of least number of the port access entity's table, P1 to P18, and names it
-/// (IEEE Std 802.1X-2004, 8.2.4). `None` comes exactly where none of its rows is enabled; nothing is
-/// changed then. A packet that the row sends is for the caller to send.
+/// (IEEE Std 802.1X-2004, 8.2.4). `None` comes exactly where none of its rows is enabled, as once the
+/// session is gone; nothing is changed then. A packet that the row sends is for the caller to send.
 pub fn step(v: &mut Vars) -> Option<Row>
     requires { v.old.re_auth_count < 4294967295 }
     ensures { TakesFirst pae_table v.old result v.new }
 {
+    if v.gone {
+        return None;
+    }
     if v.initialize
         || !v.port_enabled
         || v.port_control == Control::Auto && v.port_mode != Control::Auto
@@ -40,6 +43,7 @@ pub fn step(v: &mut Vars) -> Option<Row>
 
 // A row from the machine's state, where no row from any state is due.
 fn from_state(v: &mut Vars) -> Option<Row>
+    requires going { v.old.gone ≡ false }
     requires calm { no_global v.old ≡ true }
     requires count { v.old.re_auth_count < 4294967295 }
     ensures { TakesFirst pae_table v.old result v.new }
@@ -78,6 +82,7 @@ fn from_state(v: &mut Vars) -> Option<Row>
 }
 
 fn from_connecting(v: &mut Vars) -> Option<Row>
+    requires going { v.old.gone ≡ false }
     requires calm { no_global v.old ≡ true }
     requires state { v.old.pae ≡ Connecting }
     ensures { TakesFirst pae_table v.old result v.new }
@@ -99,6 +104,7 @@ fn from_connecting(v: &mut Vars) -> Option<Row>
 }
 
 fn from_authenticating(v: &mut Vars) -> Option<Row>
+    requires going { v.old.gone ≡ false }
     requires calm { no_global v.old ≡ true }
     requires state { v.old.pae ≡ Authenticating }
     ensures { TakesFirst pae_table v.old result v.new }
@@ -119,6 +125,7 @@ fn from_authenticating(v: &mut Vars) -> Option<Row>
 }
 
 fn from_authenticated(v: &mut Vars) -> Option<Row>
+    requires going { v.old.gone ≡ false }
     requires calm { no_global v.old ≡ true }
     requires state { v.old.pae ≡ Authenticated }
     ensures { TakesFirst pae_table v.old result v.new }
@@ -136,6 +143,7 @@ fn from_authenticated(v: &mut Vars) -> Option<Row>
 
 // The backend has to take authAbort back before this state is left.
 fn from_aborting(v: &mut Vars) -> Option<Row>
+    requires going { v.old.gone ≡ false }
     requires calm { no_global v.old ≡ true }
     requires state { v.old.pae ≡ Aborting }
     ensures { TakesFirst pae_table v.old result v.new }

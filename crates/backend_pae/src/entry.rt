@@ -1,7 +1,7 @@
-// What each state does as it is entered (IEEE Std 802.1X-2004, 8.2.7).
+// What each state does as it is entered (IEEE Std 802.1X-2004, 8.2).
 
 ghost use Rattle.std.specs.Prelude.{◌≡◌};
-ghost use Rattle.machine_vars.specs.BackendTable.{initialize, idle, request, response, ignore, timeout, success, fail};
+ghost use Rattle.machine_defs.specs.BackendTable.{initialize, idle, request, response, ignore, timeout, success, fail};
 
 use machine_vars::{Backend, Vars};
 

@@ -1,6 +1,6 @@
 ghost use Rattle.std.specs.Prelude.{◌≡◌, ◌⊎◌, Some, None, false};
-ghost use Rattle.machine_vars.specs.Table.{TakesFirst};
-ghost use Rattle.machine_vars.specs.BackendTable.{backend_table, resets, waits};
+ghost use Rattle.machine_defs.specs.Table.{TakesFirst};
+ghost use Rattle.machine_defs.specs.BackendTable.{backend_table, resets, waits};
 ghost use Rattle.machine_vars.specs.declared.states.Backend.TheVariants.{Idle, Response, Request, Ignore};
 
 use crate::entry::{
@@ -10,11 +10,14 @@ use crate::entry::{
 use machine_vars::{Backend, Control, Row, Vars};
 
 /// Takes the enabled row of least number of the backend's table, B1 to B14, and names it (IEEE Std
-/// 802.1X-2004, 8.2.7). `None` comes exactly where none of its rows is enabled; nothing is changed
-/// then. A packet that the row sends is for the caller to send.
+/// 802.1X-2004, 8.2). `None` comes exactly where none of its rows is enabled, as once the session is
+/// gone; nothing is changed then. A packet that the row sends is for the caller to send.
 pub fn step(v: &mut Vars) -> Option<Row>
     ensures { TakesFirst backend_table v.old result v.new }
 {
+    if v.gone {
+        return None;
+    }
     if v.port_control != Control::Auto || v.initialize || v.auth_abort {
         if v.backend != Backend::Initialize || v.auth_abort {
             enter_initialize(v);
@@ -38,6 +41,7 @@ pub fn step(v: &mut Vars) -> Option<Row>
 }
 
 fn from_idle(v: &mut Vars) -> Option<Row>
+    requires going { v.old.gone ≡ false }
     requires calm { resets v.old ≡ false }
     requires state { v.old.backend ≡ Idle }
     ensures { TakesFirst backend_table v.old result v.new }
@@ -62,6 +66,7 @@ fn from_idle(v: &mut Vars) -> Option<Row>
 
 // A request was sent, or a response was not taken.
 fn from_waiting(v: &mut Vars) -> Option<Row>
+    requires going { v.old.gone ≡ false }
     requires calm { resets v.old ≡ false }
     requires state { (v.old.backend ≡ Request) ⊎ (v.old.backend ≡ Ignore) }
     ensures { TakesFirst backend_table v.old result v.new }
@@ -82,6 +87,7 @@ fn from_waiting(v: &mut Vars) -> Option<Row>
 }
 
 fn from_response(v: &mut Vars) -> Option<Row>
+    requires going { v.old.gone ≡ false }
     requires calm { resets v.old ≡ false }
     requires state { v.old.backend ≡ Response }
     ensures { TakesFirst backend_table v.old result v.new }

@@ -1,7 +1,7 @@
 // What each state does as it is entered (RFC 4137, 7).
 
 ghost use Rattle.std.specs.Prelude.{◌≡◌, ◌<◌, true, length};
-ghost use Rattle.machine_vars.specs.EapTable.{fits, next_id, start, idle2, retransmit2, discard2, aaa_request, aaa_idle, aaa_response, send_request2};
+ghost use Rattle.machine_defs.specs.EapTable.{fits, next_id, start, idle2, retransmit2, discard2, aaa_request, aaa_idle, aaa_response, send_request2};
 
 use crate::response::is_identity;
 use machine_vars::{EapState, Vars};

@@ -1,5 +1,5 @@
 ghost use Rattle.std.specs.Prelude.{◌≡◌, ◌<◌, length};
-ghost use Rattle.machine_vars.specs.EapTable.{response_fits, is_identity};
+ghost use Rattle.machine_defs.specs.EapTable.{response_fits, is_identity};
 
 // Whether the packet is of the type Identity (RFC 3748, 5.1).
 pub(crate) fn is_identity(eap: &[u8]) -> bool

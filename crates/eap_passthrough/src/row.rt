@@ -1,6 +1,6 @@
 ghost use Rattle.std.specs.Prelude.{◌≡◌, ◌<◌, Some, None, true, false, length};
-ghost use Rattle.machine_vars.specs.Table.{TakesFirst};
-ghost use Rattle.machine_vars.specs.EapTable.{eap_table};
+ghost use Rattle.machine_defs.specs.Table.{TakesFirst};
+ghost use Rattle.machine_defs.specs.EapTable.{eap_table};
 ghost use Rattle.machine_vars.specs.declared.states.EapState.TheVariants.{AaaIdle, Idle2, Received2};
 
 use crate::entry::{
@@ -11,12 +11,16 @@ use crate::response::response_fits;
 use machine_vars::{EapState, Row, Vars};
 
 /// Takes the enabled row of least number of the EAP machine's table, E1 to E17, and names it (RFC
-/// 4137, 7). `None` comes exactly where none of its rows is enabled; nothing is changed then.
+/// 4137, 7). `None` comes exactly where none of its rows is enabled, as once the session is gone;
+/// nothing is changed then.
 pub fn step(v: &mut Vars) -> Option<Row>
     requires count { v.old.retrans_count < 4294967295 }
     requires held { v.old.aaa_eap_req ≡ true → 1 < length v.old.aaa_eap_req_data.items }
     ensures { TakesFirst eap_table v.old result v.new }
 {
+    if v.gone {
+        return None;
+    }
     if v.eap_restart {
         enter_start(v);
         return Some(Row::E(1));
@@ -60,6 +64,7 @@ pub fn step(v: &mut Vars) -> Option<Row>
 }
 
 fn from_idle2(v: &mut Vars) -> Option<Row>
+    requires going { v.old.gone ≡ false }
     requires calm { v.old.eap_restart ≡ false }
     requires state { v.old.eap ≡ Idle2 }
     requires count { v.old.retrans_count < 4294967295 }
@@ -77,6 +82,7 @@ fn from_idle2(v: &mut Vars) -> Option<Row>
 }
 
 fn from_received2(v: &mut Vars) -> Option<Row>
+    requires going { v.old.gone ≡ false }
     requires calm { v.old.eap_restart ≡ false }
     requires state { v.old.eap ≡ Received2 }
     ensures { TakesFirst eap_table v.old result v.new }
@@ -90,6 +96,7 @@ fn from_received2(v: &mut Vars) -> Option<Row>
 }
 
 fn from_aaa_idle(v: &mut Vars) -> Option<Row>
+    requires going { v.old.gone ≡ false }
     requires calm { v.old.eap_restart ≡ false }
     requires state { v.old.eap ≡ AaaIdle }
     requires held { v.old.aaa_eap_req ≡ true → 1 < length v.old.aaa_eap_req_data.items }

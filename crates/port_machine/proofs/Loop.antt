@@ -1,21 +1,22 @@
 -- What the loop of `settle` keeps.
-use Rattle.std.proofs.Common.{◌≡◌, ℕ, suc, zero, ◌+◌, ◌≤◌, ◌<◌, Bool, true, false, List, [], ◌∷◌, ◌++◌, length, Option, Some, None, ◌∙◌, sym, subst, refl, append_assoc, arith, MatchOption, if◌then◌else◌}
+use Rattle.std.proofs.Common.{◌≡◌, ℕ, suc, zero, ◌+◌, ◌≤◌, ◌<◌, List, [], ◌∷◌, ◌++◌, length, Option, Some, None, ◌∙◌, ap, sym, subst, refl, append_assoc, arith, MatchOption}
 use Rattle.machine_vars.specs.declared.vars.Vars.{Vars}
 use Rattle.machine_vars.specs.declared.states.Row.{Row}
-use Rattle.machine_vars.specs.Table.{Line, first_enabled}
-use Rattle.machine_vars.specs.Settling.{all_rows, next, TakesNext, Settles, rests, takes}
-use Rattle.machine_vars.specs.Live.{Ready}
-use Rattle.machine_vars.specs.Settled.{Settled, Ends}
-use Rattle.port_machine.specs.Frames.{frame_of, frames, sent_by}
-use Rattle.out_tray.specs.Item.{Item, Frame}
+use Rattle.machine_defs.specs.Table.{Line}
+use Rattle.machine_defs.specs.Settling.{all_rows, next, TakesNext, Settles, rests, takes}
+use Rattle.machine_defs.specs.Live.{Ready}
+use Rattle.port_machine.specs.Sends.{sent_by}
+use Rattle.switch_event.specs.Sent.{Sent, ToHost}
+use Rattle.switch_event.specs.Frames.{eap_frame, to_peer, frames}
 use Rattle.out_tray.specs.Tray.{Things}
-use Rattle.wire_defs.specs.Ethernet.{plain_text, eapol_kind}
-use Rattle.wire_defs.specs.Eapol.{eapol_text}
 use Rattle.std.specs.Prelude.{map}
 use Rattle.std.proofs.lemmas.List.{append-nil, map-append}
 use Rattle.port_machine.proofs.Sends.{all_named, Named}
-use Rattle.machine_vars.proofs.Growth.{Grows, each_first}
-use Rattle.machine_vars.proofs.Bound.{Sane, ready_ends, ready_sane, ready_counts, grows_next, sane_after}
+use Rattle.machine_defs.proofs.Growth.{Grows, Own, each_first}
+use Rattle.machine_defs.proofs.Forms.{Formed}
+use Rattle.machine_defs.proofs.Goes.{Ends}
+use Rattle.machine_defs.proofs.Bound.{ready_ends}
+use Rattle.machine_defs.proofs.Counts.{Sane, ready_sane, ready_counts, grows_next, sane_after}
 
 -- the value speaks from the same port and address to the same peer
 pub record Speaks (v from : Vars) : Type 0 where
@@ -24,7 +25,7 @@ pub record Speaks (v from : Vars) : Type 0 where
   pub peer : v.peer ≡ from.peer
 
 -- from the value `from`, n rows led to v, and the items of the tray grew by the frames of what they sent
-pub record Under (from v : Vars) (n : ℕ) (before after : List Item) : Type 0 where
+pub record Under (from v : Vars) (n : ℕ) (before after : List Sent) : Type 0 where
   pub fuel : ℕ
   pub left : fuel + n ≡ 48
   pub ends : Ends fuel v
@@ -36,7 +37,7 @@ pub record Under (from v : Vars) (n : ℕ) (before after : List Item) : Type 0 w
   pub shown : after ≡ before ++ frames from told
   pub so_far : (w : Vars) (rows : List Row) (sent : List (List ℕ)) → Settles v rows sent w → (all : List Row) × Settles from all (told ++ sent) w × (length all ≡ n + length rows)
 
-pub under_start : (v : Vars) (before : List Item) → Ready v → Under v v 0 before before
+pub under_start : (v : Vars) (before : List Sent) → Ready v → Under v v 0 before before
 under_start v before r = record {
   fuel = 48;
   left = refl;
@@ -84,26 +85,19 @@ subst3 P {a} {b} {c} {d} {e} {f} p q r h =
 -- the frames of a value are those of another that speaks the same
 same_frames : (v from : Vars) (xs : List (List ℕ)) → Speaks v from → frames v xs ≡ frames from xs
 same_frames v from xs s =
-    let P : ℕ → List ℕ → List ℕ → Type 0 = λ port own peer. frames v xs ≡ map (λ eap. Frame port (plain_text (record { to = peer; source = own; kind = eapol_kind; body = eapol_text eap }))) xs in
+    let P : ℕ → List ℕ → List ℕ → Type 0 = λ port own peer. frames v xs ≡ map (λ eap. ToHost port (eap_frame peer own eap)) xs in
     subst3 P s.port s.own s.peer refl
 
-more_frames : (v from : Vars) (before after later : List Item) (told sends : List (List ℕ)) → Speaks v from → after ≡ before ++ frames from told → later ≡ after ++ frames v sends →
+more_frames : (v from : Vars) (before after later : List Sent) (told sends : List (List ℕ)) → Speaks v from → after ≡ before ++ frames from told → later ≡ after ++ frames v sends →
     later ≡ before ++ frames from (told ++ sends)
 more_frames v from before after later told sends s a b =
-    rw (b, a, same_frames v from sends s, map-append (λ eap. Frame from.port (frame_of from eap)) told sends) (append_assoc before (frames from told) (frames from sends))
+    rw (b, a, same_frames v from sends s, map-append (to_peer from) told sends) (append_assoc before (frames from told) (frames from sends))
 
 some_row : {a b : Row} → Some a ≡ Some b → a ≡ b
 some_row h = cc
 
 named_next : (v : Vars) (l : Line) → next v ≡ Some l → Named l
-named_next v l h = by_gone v.gone refl
-  where
-    here : (b : Bool) → v.gone ≡ b → (if b then None else first_enabled all_rows v) ≡ Some l
-    here b e = let P : Bool → Type 0 = λ b. (if b then None else first_enabled all_rows v) ≡ Some l in subst P e h
-
-    by_gone : (b : Bool) → v.gone ≡ b → Named l
-    by_gone true e = absurd (some_none_line (sym (here true e)))
-    by_gone false e = each_first Named all_rows v l all_named (here false e)
+named_next v l h = each_first Named all_rows v l all_named h
 
 -- what the row sends is told by its name
 sent_is : (v w : Vars) (r : Row) → TakesNext v (Some r) w → (l : Line) → next v ≡ Some l → w ≡ l.after v → l.sends v ≡ sent_by r w
@@ -118,14 +112,18 @@ ends_after : (v : Vars) (l : Line) (fuel : ℕ) → next v ≡ Some l → Ends f
 ends_after v l zero h e = absurd e
 ends_after v l (suc less) h e = (less, omega arith, by_next (next v) h e)
   where
-    by_next : (o : Option Line) → o ≡ Some l → elim o as (λ _. Type 0) [ None ↦ Settled v | Some x ↦ Ends less (x.after v) ] → Ends less (l.after v)
+    by_next : (o : Option Line) → o ≡ Some l → elim o as (λ _. Type 0) [ None ↦ Formed v | Some x ↦ Ends less (x.after v) ] → Ends less (l.after v)
     by_next None k e = absurd (some_none_line (sym k))
     by_next (Some x) k e = let same : x ≡ l = cc in let P : Line → Type 0 = λ y. Ends less (y.after v) in subst P same e
 
 speaks_after : (v from : Vars) (l : Line) → Grows l → Speaks v from → Speaks (l.after v) from
-speaks_after v from l g s = record { port = g.port v ∙ s.port; own = g.own v ∙ s.own; peer = g.peer v ∙ s.peer }
+speaks_after v from l g s = record {
+  port = ap (λ (o : Own). o.port) (g.same v) ∙ s.port;
+  own = ap (λ (o : Own). o.own) (g.same v) ∙ s.own;
+  peer = ap (λ (o : Own). o.peer) (g.same v) ∙ s.peer;
+}
 
-pub under_more : (from v w : Vars) (n : ℕ) (r : Row) (before after later : List Item) → Under from v n before after → TakesNext v (Some r) w →
+pub under_more : (from v w : Vars) (n : ℕ) (r : Row) (before after later : List Sent) → Under from v n before after → TakesNext v (Some r) w →
     later ≡ after ++ frames w (sent_by r w) → Under from w (n + 1) before later
 under_more from v w n r before after later u h o =
     let t = taken_line v w r h in
@@ -151,7 +149,7 @@ under_more from v w n r before after later u h o =
     })
 
 -- the loop's end
-pub under_end : (from v w : Vars) (n : ℕ) (before after : List Item) → Under from v n before after → TakesNext v None w →
+pub under_end : (from v w : Vars) (n : ℕ) (before after : List Sent) → Under from v n before after → TakesNext v None w →
     (rows : List Row) × (sent : List (List ℕ)) × Settles from rows sent w × (length rows ≡ n) × (after ≡ before ++ frames from sent)
 under_end from v w n before after u h =
     let t = not_taken v w h in
@@ -159,11 +157,19 @@ under_end from v w n before after u h =
     let P : Vars → Type 0 = λ x. (rows : List Row) × (sent : List (List ℕ)) × Settles from rows sent x × (length rows ≡ n) × (after ≡ before ++ frames from sent) in
     subst P (sym t.1) (more.0, u.told, (let Q : List (List ℕ) → Type 0 = λ x. Settles from more.0 x v in subst Q (append-nil u.told) more.1), omega (arith, more.2), u.shown)
 
-pub under_room : (from v w : Vars) (n : ℕ) (r : Row) (before after : List Item) → Under from v n before after → TakesNext v (Some r) w → n < 48
+pub under_room : (from v w : Vars) (n : ℕ) (r : Row) (before after : List Sent) → Under from v n before after → TakesNext v (Some r) w → n < 48
 under_room from v w n r before after u h =
     let t = taken_line v w r h in
     let less = ends_after v t.0 u.fuel t.1 u.ends in
     omega (arith, u.left, less.1)
 
-pub same_things : (now old : Things) (items : List Item) → now.sessions ≡ old.sessions → now.items ≡ items → now ≡ record old { items = items }
+pub same_things : (now old : Things) (items : List Sent) → now.sessions ≡ old.sessions → now.items ≡ items → now ≡ record old { items = items }
 same_things now old items a b = rw (← a, ← b) refl
+
+-- fewer than 48 rows were taken
+pub under_few : (from v : Vars) (n : ℕ) (before after : List Sent) → Under from v n before after → n < 48
+under_few from v n before after u = by_fuel u.fuel u.ends u.left
+  where
+    by_fuel : (fuel : ℕ) → Ends fuel v → fuel + n ≡ 48 → n < 48
+    by_fuel zero e l = absurd e
+    by_fuel (suc k) e l = omega (arith, l)

@@ -1,14 +1,14 @@
 -- What a row sends is known by its name, also after it.
 use Rattle.std.proofs.Common.{◌≡◌, ◌++◌, refl}
 use Rattle.machine_vars.specs.declared.vars.Vars.{Vars}
-use Rattle.machine_vars.specs.Table.{Line}
-use Rattle.machine_vars.specs.PaeTable.{pae_table}
-use Rattle.machine_vars.specs.BackendTable.{backend_table}
-use Rattle.machine_vars.specs.ReauthTable.{reauth_table}
-use Rattle.machine_vars.specs.EapTable.{eap_table}
-use Rattle.machine_vars.specs.Settling.{all_rows}
-use Rattle.machine_vars.proofs.Growth.{Each, each_append}
-use Rattle.port_machine.specs.Frames.{sent_by}
+use Rattle.machine_defs.specs.Table.{Line}
+use Rattle.machine_defs.specs.PaeTable.{pae_table}
+use Rattle.machine_defs.specs.BackendTable.{backend_table}
+use Rattle.machine_defs.specs.ReauthTable.{reauth_table}
+use Rattle.machine_defs.specs.EapTable.{eap_table}
+use Rattle.machine_defs.specs.Settling.{all_rows}
+use Rattle.machine_defs.proofs.Growth.{Each, each_append}
+use Rattle.port_machine.specs.Sends.{sent_by}
 
 abbrev pub Named : Line → Type 0
 Named l = (v : Vars) → l.sends v ≡ sent_by l.name (l.after v)

@@ -1,2 +1,2 @@
-pub mod Frames
+pub mod Sends
 pub mod Laws

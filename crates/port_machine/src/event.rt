@@ -1,7 +1,8 @@
 ghost use Rattle.std.specs.Prelude.{◌≡◌, ◌≤◌, length, None, false};
-ghost use Rattle.machine_vars.specs.BackendTable.{is_auto};
-ghost use Rattle.machine_vars.specs.Settling.{next};
-ghost use Rattle.machine_vars.specs.Live.{Live, Ready, set, cleared, to_all, as_octets, Start, Logoff, Greeting, Packet, Challenge, Notice, Accept, Reject, Second, Change};
+ghost use Rattle.machine_defs.specs.BackendTable.{is_auto};
+ghost use Rattle.machine_defs.specs.Settling.{next};
+ghost use Rattle.machine_defs.specs.Settled.{Settled};
+ghost use Rattle.machine_defs.specs.Live.{Live, Ready, set, cleared, to_all, as_octets, Start, Logoff, Greeting, Packet, Challenge, Notice, Accept, Reject, Second, Change};
 
 use machine_vars::{Control, Vars};
 use wire_core::Mac;
@@ -37,12 +38,15 @@ pub fn greet(v: &mut Vars, source: Mac)
     v.peer = peer;
 }
 
-/// A forced port speaks to the group of all port access entities again (IEEE Std 802.1X-2004, 7.8).
+/// A forced port speaks to the group of all port access entities again (IEEE Std 802.1X-2004, 7.8). A
+/// settled value stays settled.
 pub fn to_all(v: &mut Vars)
     requires live { Live v.old }
     requires forced { is_auto v.old.port_control ≡ false }
     ensures value { v.new ≡ to_all v.old }
     ensures live { Live v.new }
+    ensures idle { next v.old ≡ None → next v.new ≡ None }
+    ensures settled { Settled v.old → Settled v.new }
 {
     let group = [0x01, 0x80, 0xc2, 0x00, 0x00, 0x03];
     v.peer = group;
@@ -128,17 +132,21 @@ pub fn change(v: &mut Vars, again: bool, period: u32)
     requires period { 1 ≤ period }
     ensures value { v.new ≡ set (Change again period) v.old }
     ensures live { Live v.new }
-    ensures settled { next v.new ≡ None }
+    ensures idle { next v.new ≡ None }
+    ensures settled { Settled v.new }
 {
     set_times(v, again, period);
 }
 
 /// What a settling asked for was done: the request to the server was sent, or the one that is open
-/// was dropped.
+/// was dropped. What [`machine_vars::Wants`] names is taken back, but for the end of the session. A settled
+/// value stays settled.
 pub fn acknowledge(v: &mut Vars)
     requires { Live v.old }
     ensures value { v.new ≡ cleared v.old }
     ensures live { Live v.new }
+    ensures idle { next v.old ≡ None → next v.new ≡ None }
+    ensures settled { Settled v.old → Settled v.new }
 {
     v.aaa_abort = false;
     v.aaa_eap_resp = false;

@@ -1,11 +1,12 @@
-ghost use Rattle.machine_vars.specs.PaeTable.{pae_table};
-ghost use Rattle.machine_vars.specs.BackendTable.{backend_table};
-ghost use Rattle.machine_vars.specs.ReauthTable.{reauth_table};
-ghost use Rattle.machine_vars.specs.EapTable.{eap_table};
+ghost use Rattle.machine_defs.specs.PaeTable.{pae_table};
+ghost use Rattle.machine_defs.specs.BackendTable.{backend_table};
+ghost use Rattle.machine_defs.specs.ReauthTable.{reauth_table};
+ghost use Rattle.machine_defs.specs.EapTable.{eap_table};
 ghost use Rattle.port_machine.specs.Laws.{AnswersLeast, AnswersNone};
 
 /// A step of each machine takes the first enabled row of its table: that is its enabled row of least
-/// number, and where a step answers `None` no row is enabled and nothing was changed.
+/// number, and where a step answers `None` no row is enabled and nothing was changed. No row is enabled
+/// once the session is gone.
 pub fn steps_take_the_row_of_least_number()
     ensures port_access { AnswersLeast pae_table }
     ensures backend { AnswersLeast backend_table }

@@ -3,7 +3,6 @@
 #![tactic(auto)]
 
 mod event;
-mod frame;
 mod laws;
 mod opening;
 mod settling;
@@ -13,6 +12,7 @@ pub use event::{
     to_all,
 };
 pub use laws::steps_take_the_row_of_least_number;
+pub use machine_vars::Times;
 pub use opening::fresh;
 pub use settling::settle;
 

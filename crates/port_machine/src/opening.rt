@@ -1,5 +1,5 @@
 ghost use Rattle.std.specs.Prelude.{◌≡◌};
-ghost use Rattle.machine_vars.specs.Live.{Ready, Live, InRange, fresh};
+ghost use Rattle.machine_defs.specs.Live.{Ready, Live, InRange, fresh};
 
 use arrayvec::ArrayVec;
 use machine_vars::{Backend, Control, EapState, Pae, Reauth, Times, Vars};

@@ -1,5 +1,5 @@
 ghost use Rattle.std.specs.Prelude.{◌≡◌};
-ghost use Rattle.machine_vars.specs.Live.{Live, Ready};
+ghost use Rattle.machine_defs.specs.Live.{Live, Ready};
 
 use crate::settling::next_row;
 use crate::{accept, fresh, receive, settle};

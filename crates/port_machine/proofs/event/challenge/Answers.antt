@@ -1,5 +1,5 @@
 use Rattle.std.proofs.Common.{rules}
-use Rattle.machine_vars.specs.Live.{Challenge}
+use Rattle.machine_defs.specs.Live.{Challenge}
 use Rattle.port_machine.proofs.Ready.{with_event}
 use Rattle.port_machine.proofs.event.challenge.Goals as goal
 

@@ -1,4 +1,4 @@
-use Rattle.machine_vars.specs.Live.{turns, Greeting}
+use Rattle.machine_defs.specs.Live.{turns, Greeting}
 use Rattle.port_machine.proofs.event.greet.Goals as goal
 
 pub returns-clause-ready : goal.returns-clause-ready

@@ -1,4 +1,4 @@
-use Rattle.machine_vars.specs.Live.{turns, Notice}
+use Rattle.machine_defs.specs.Live.{turns, Notice}
 use Rattle.port_machine.proofs.event.notice.Goals as goal
 
 pub returns-clause-ready : goal.returns-clause-ready

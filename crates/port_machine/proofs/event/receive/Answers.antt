@@ -1,5 +1,5 @@
 use Rattle.std.proofs.Common.{rules}
-use Rattle.machine_vars.specs.Live.{Packet}
+use Rattle.machine_defs.specs.Live.{Packet}
 use Rattle.port_machine.proofs.Ready.{with_event}
 use Rattle.port_machine.proofs.event.receive.Goals as goal
 

@@ -1,5 +1,5 @@
 use Rattle.std.proofs.Common.{rules}
-use Rattle.machine_vars.specs.Live.{Reject}
+use Rattle.machine_defs.specs.Live.{Reject}
 use Rattle.port_machine.proofs.Ready.{with_event}
 use Rattle.port_machine.proofs.event.reject.Goals as goal
 

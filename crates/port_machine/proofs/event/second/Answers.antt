@@ -1,4 +1,4 @@
-use Rattle.machine_vars.specs.Live.{Second}
+use Rattle.machine_defs.specs.Live.{Second}
 use Rattle.port_machine.proofs.Ready.{with_event}
 use Rattle.port_machine.proofs.event.second.Goals as goal
 

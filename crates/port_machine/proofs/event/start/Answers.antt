@@ -1,4 +1,4 @@
-use Rattle.machine_vars.specs.Live.{turns, Start}
+use Rattle.machine_defs.specs.Live.{turns, Start}
 use Rattle.port_machine.proofs.event.start.Goals as goal
 
 pub returns-clause-ready : goal.returns-clause-ready

@@ -1,8 +1,8 @@
-use Rattle.machine_vars.specs.PaeTable.{pae_table}
-use Rattle.machine_vars.specs.BackendTable.{backend_table}
-use Rattle.machine_vars.specs.ReauthTable.{reauth_table}
-use Rattle.machine_vars.specs.EapTable.{eap_table}
-use Rattle.machine_vars.proofs.Laws.{pae_rising, backend_rising, reauth_rising, eap_rising, takes_least, takes_none}
+use Rattle.machine_defs.specs.PaeTable.{pae_table}
+use Rattle.machine_defs.specs.BackendTable.{backend_table}
+use Rattle.machine_defs.specs.ReauthTable.{reauth_table}
+use Rattle.machine_defs.specs.EapTable.{eap_table}
+use Rattle.machine_defs.proofs.Laws.{pae_rising, backend_rising, reauth_rising, eap_rising, takes_least, takes_none}
 use Rattle.port_machine.proofs.laws.steps_take_the_row_of_least_number.Goals as goal
 
 pub returns-clause-port_access : goal.returns-clause-port_access

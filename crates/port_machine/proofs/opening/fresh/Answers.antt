@@ -1,6 +1,6 @@
 use Rattle.std.proofs.Common.{subst, sym}
 use Rattle.machine_vars.specs.declared.vars.Vars.{Vars}
-use Rattle.machine_vars.specs.Live.{Live, Ready, born, still}
+use Rattle.machine_defs.specs.Live.{Live, Ready, born, still}
 use Rattle.port_machine.proofs.opening.fresh.Goals as goal
 
 pub returns-clause-live : goal.returns-clause-live

@@ -1,9 +1,9 @@
 use Rattle.std.proofs.Common.{◌++◌, ap, refl, ◌∙◌, arith}
 use Rattle.out_tray.specs.Tray.{Things}
-use Rattle.machine_vars.proofs.Bound.{ready_live, ready_ends, ends_settled}
-use Rattle.machine_vars.proofs.Idle.{settles_idle}
-use Rattle.port_machine.specs.Frames.{frames}
-use Rattle.port_machine.proofs.Loop.{under_start, under_more, under_end, under_room, same_things}
+use Rattle.machine_defs.proofs.Bound.{ready_live, ready_ends, ends_formed, settles_idle}
+use Rattle.machine_defs.proofs.Reading.{settled_form}
+use Rattle.switch_event.specs.Frames.{frames}
+use Rattle.port_machine.proofs.Loop.{under_start, under_more, under_end, under_room, under_few, same_things}
 use Rattle.port_machine.proofs.settling.settle.Goals as goal
 
 pub rows-init : goal.rows-init
@@ -42,4 +42,10 @@ returns-clause-settled c =
 pub returns-clause-combination : goal.returns-clause-combination
 returns-clause-combination c =
     let end = under_end c.args.v.now c.rows.v c.next_row.new.v c.rows.rows _ _ c.rows.invariant.under c.in_default.ensures in
-    (ends_settled end.2 48 (ready_ends c.requires.ready)).0
+    settled_form (ends_formed end.2 48 (ready_ends c.requires.ready)).0
+
+pub returns-clause-bound : goal.returns-clause-bound
+returns-clause-bound c = under_few c.args.v.now c.rows.v c.rows.rows _ _ c.rows.invariant.under
+
+pub returns-clause-room : goal.returns-clause-room
+returns-clause-room c = omega (arith, under_few c.args.v.now c.rows.v c.rows.rows _ _ c.rows.invariant.under, c.rows.invariant.room)

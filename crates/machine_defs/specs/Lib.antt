@@ -1,0 +1,10 @@
+pub mod Table
+pub mod PaeTable
+pub mod BackendTable
+pub mod ReauthTable
+pub mod EapTable
+pub mod Settling
+pub mod Live
+pub mod Settled
+pub mod Outcome
+pub mod Words

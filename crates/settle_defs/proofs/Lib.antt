@@ -1,0 +1,4 @@
+mod Keeping
+mod Naming
+mod Speaking
+pub mod SettleLaws
