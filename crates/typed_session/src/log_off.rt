@@ -1,0 +1,33 @@
+ghost use Rattle.std.specs.Prelude.{◌≡◌, ◌≤◌, ◌+◌};
+ghost use Rattle.out_tray.specs.Tray.{spare};
+ghost use Rattle.typed_session.specs.Moves.{after_logoff};
+ghost use Rattle.typed_session.specs.Follows.{Says};
+
+use crate::host::Host;
+use crate::round::new_round;
+use out_tray::Tray;
+
+// The host logs off.
+pub(crate) fn log_off(host: &mut Host, tray: &mut Tray)
+    requires { 1534 ≤ spare tray.old }
+    ensures host { host.new ≡ (after_logoff host.old).host }
+    ensures sent { Says host.old (after_logoff host.old) tray.old tray.new }
+    ensures room { spare tray.old ≤ spare tray.new + 1534 }
+{
+    match host {
+        Host::Request(a) | Host::Ignore(a) => {
+            *host = new_round(a.common.dropped(), false, false, false, 0, tray);
+        }
+        Host::Server(a) => {
+            *host = new_round(a.common.dropped(), false, false, false, 0, tray);
+        }
+        Host::GaveUp(a) => {
+            *host = new_round(a.common.dropped(), false, false, false, 0, tray);
+        }
+        Host::Authenticated(a) => {
+            *host = new_round(a.common.copy(), false, false, false, 0, tray);
+        }
+        Host::Held(a) => a.logs_off = true,
+        Host::Ended(_) => {}
+    }
+}

@@ -1,0 +1,143 @@
+ghost use Rattle.std.specs.Prelude.{◌≡◌, ◌≤◌, ◌<◌, ◌+◌, length};
+ghost use Rattle.out_tray.specs.Tray.{spare};
+ghost use Rattle.typed_session.specs.Moves.{from_server, waiting_again, let_in, shut_out, after_challenge, after_notice, after_accept, after_reject};
+ghost use Rattle.typed_session.specs.Follows.{SaysFrom, Says};
+
+use crate::common::octets;
+use crate::host::{Admitted, Asked, Common, Host, Refused, Served};
+use crate::receive::answer;
+use crate::round::new_round;
+use crate::times::{change, set_timer};
+use crate::waiting::idle_time;
+use out_tray::Tray;
+
+// The server's request goes to the host.
+fn from_server(eap: &[u8], wait: u32, a: &Served) -> Asked
+    requires long { 2 ≤ length eap.now }
+    requires short { length eap.now ≤ 1500 }
+    ensures { result ≡ from_server eap.now wait a.now }
+{
+    let mut common = a.common.copy();
+    common.id = eap[1];
+    Asked {
+        common,
+        status: a.status,
+        tries: a.tries,
+        sent: 0,
+        wait: idle_time(wait),
+        method: wait,
+        local: false,
+        due: a.due,
+        request: octets(eap),
+    }
+}
+
+// The server asks on. Where it was not asked only the time for a response is taken over.
+pub(crate) fn challenge(host: &mut Host, eap: &[u8], wait: u32, tray: &mut Tray)
+    requires long { 2 ≤ length eap.now }
+    requires short { length eap.now ≤ 1500 }
+    requires spare { 1534 ≤ spare tray.old }
+    ensures host { host.new ≡ (after_challenge eap.now wait host.old).host }
+    ensures sent { Says host.old (after_challenge eap.now wait host.old) tray.old tray.new }
+    ensures room { spare tray.old ≤ spare tray.new + 1534 }
+{
+    match host {
+        Host::Request(a) => a.method = wait,
+        Host::Ignore(a) => a.method = wait,
+        Host::Server(a) => {
+            a.common.send(eap, tray);
+            *host = Host::Request(from_server(eap, wait, a));
+        }
+        _ => {}
+    }
+}
+
+// The host is waited for as before its response.
+fn waiting_again(a: &Served) -> Asked
+    ensures { result ≡ waiting_again a.now }
+{
+    Asked {
+        common: a.common.copy(),
+        status: a.status,
+        tries: a.tries,
+        sent: a.sent,
+        wait: idle_time(a.method),
+        method: a.method,
+        local: a.local,
+        due: a.due,
+        request: octets(a.request.as_slice()),
+    }
+}
+
+// The server asks on without a packet: a packet of the host that came since is looked at.
+pub(crate) fn notice(host: &mut Host)
+    ensures { host.new ≡ (after_notice host.old).host }
+{
+    if let Host::Server(a) = host {
+        let asked = waiting_again(a);
+        if a.heard {
+            *host = answer(a.latest.as_slice(), &asked);
+        } else {
+            *host = Host::Ignore(asked);
+        }
+    }
+}
+
+// The host is let in, and asked anew at once where that is due.
+fn let_in(common: Common, due: bool, tray: &mut Tray) -> Host
+    requires { 1534 ≤ spare tray.old }
+    ensures host { result ≡ (let_in common due).host }
+    ensures sent { SaysFrom common (let_in common due) tray.old tray.new }
+    ensures room { spare tray.old ≤ spare tray.new + 1534 }
+{
+    if due {
+        new_round(common, true, false, false, 0, tray)
+    } else {
+        Host::Authenticated(Admitted { common, tries: 0 })
+    }
+}
+
+// The server accepts. Where it was not asked only the times are taken over.
+pub(crate) fn accept(host: &mut Host, eap: &[u8], again: bool, period: u32, tray: &mut Tray)
+    requires short { length eap.now ≤ 1500 }
+    requires spare { 3068 ≤ spare tray.old }
+    ensures host { host.new ≡ (after_accept eap.now again period host.old).host }
+    ensures sent { Says host.old (after_accept eap.now again period host.old) tray.old tray.new }
+    ensures room { spare tray.old ≤ spare tray.new + 3068 }
+{
+    if let Host::Server(a) = host {
+        a.common.send(eap, tray);
+        let mut common = a.common.copy();
+        set_timer(&mut common, again, period);
+        *host = let_in(common, a.due, tray);
+    } else {
+        change(host, again, period);
+    }
+}
+
+// The host is shut out for the quiet period.
+fn shut_out(a: &Served) -> Host
+    ensures { result ≡ shut_out a.now }
+{
+    Host::Held(Refused {
+        common: a.common.copy(),
+        tries: a.tries,
+        wait: a.common.times.quiet,
+        starts: false,
+        logs_off: false,
+    })
+}
+
+// The server refuses.
+pub(crate) fn refuse(host: &mut Host, eap: &[u8], tray: &mut Tray)
+    requires short { length eap.now ≤ 1500 }
+    requires spare { 1534 ≤ spare tray.old }
+    ensures host { host.new ≡ (after_reject eap.now host.old).host }
+    ensures sent { Says host.old (after_reject eap.now host.old) tray.old tray.new }
+    ensures room { spare tray.old ≤ spare tray.new + 1534 }
+{
+    if let Host::Server(a) = host {
+        a.common.send(eap, tray);
+        *host = shut_out(a);
+    }
+}
