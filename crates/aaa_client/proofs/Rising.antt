@@ -5,8 +5,8 @@ use Rattle.std.specs.Prelude.{nat_lt, find, filter}
 use Rattle.std.proofs.lemmas.List.Sorted.{IsPartitionedBy-ltb}
 use Rattle.std.specs.List.{AllByRecursion, AllWithin, insert, remove}
 use Rattle.std.specs.List.Sorted.{IsPartitionedBy, IsNonDecreasingBy}
-use Rattle.aaa_defs.specs.Waits.{placed}
-use Rattle.aaa_client.specs.Order.{RisesBy, below}
+use Rattle.aaa_defs.specs.Waits.{RisesBy, placed}
+use Rattle.aaa_client.specs.Order.{below}
 
 module _ {X : Type 0} (number : X → ℕ) where
   -- ---- the tests of one element
@@ -92,7 +92,7 @@ module _ {X : Type 0} (number : X → ℕ) where
             rw (le-ltb (number y) n least, lt-ltb (number x) (number y) (omega (arith, other))) refl
       ]
 
-  all-placed : (P : X → Type 0) (x : X) (xs : List X) → P x → AllByRecursion P xs → AllByRecursion P (placed number x xs)
+  pub all-placed : (P : X → Type 0) (x : X) (xs : List X) → P x → AllByRecursion P xs → AllByRecursion P (placed number x xs)
   all-placed P x [] one all = (one, tt)
   all-placed P x (y ∷ rest) one all =
       elim (cases_lt (number x) (number y)) [
@@ -147,7 +147,7 @@ module _ {X : Type 0} (number : X → ℕ) where
 
   -- ---- the place that a binary search finds
 
-  all-at : (P : X → Type 0) (xs : List X) → AllByRecursion P xs → (k : ℕ) (d : X) → k < length xs → P (get_or xs k d)
+  pub all-at : (P : X → Type 0) (xs : List X) → AllByRecursion P xs → (k : ℕ) (d : X) → k < length xs → P (get_or xs k d)
   all-at P [] all k d within = absurd (omega (arith, within))
   all-at P (x ∷ rest) all zero d within = all.0
   all-at P (x ∷ rest) all (suc k) d within = all-at P rest all.1 k d (omega (arith, within))

@@ -1,4 +1,4 @@
 pub mod Order
 pub mod Places
 pub mod Meaning
-pub mod Sizes
+pub mod Room

@@ -1,26 +1,26 @@
 //! Which session has which request: an index, so that no request is read that is not wanted.
-ghost use Rattle.std.specs.Prelude.{◌≡◌, ◌==◌, ◌+◌, ◌<◌, ◌≤◌, [], ◌∷◌, not, length, filter, find, None};
+ghost use Rattle.std.specs.Prelude.{◌≡◌, ◌==◌, ◌+◌, ◌<◌, ◌≤◌, [], ◌∷◌, not, length, filter, find, IfSome, None};
+ghost use Rattle.std.specs.List.{AllByRecursion};
 ghost use Rattle.std.specs.Option.{option_map};
+ghost use Rattle.aaa_defs.specs.declared.TheConstants.{NAMES, MOST_WAITING};
 ghost use Rattle.aaa_defs.specs.Waits.{placed};
 ghost use Rattle.aaa_client.specs.Order.{Rising, below, session_of};
 
+use aaa_defs::MOST_WAITING;
 use arrayvec::ArrayVec;
 use std::marker::Model;
 
-// How many requests may wait at once.
-pub(crate) const MOST: usize = 240;
-
-// A session, and the identifier of its request.
+// A session, and the name of its request.
 #[derive(Clone, Copy, Debug, Default, PartialEq, Eq)]
 pub(crate) struct Entry {
     pub(crate) session: u32,
-    pub(crate) id: u8,
+    pub(crate) name: u16,
 }
 
 // The sessions that have a request, in rising order.
 #[derive(Drop)]
 pub(crate) struct Order {
-    entries: ArrayVec<Entry, MOST>,
+    entries: ArrayVec<Entry, MOST_WAITING>,
 }
 
 impl Model for Order {
@@ -29,11 +29,11 @@ impl Model for Order {
 
     ghost Value = { List Entry };
 
-    ghost use Rattle.aaa_client.specs.Order.{Rising};
+    ghost use Rattle.aaa_client.specs.Order.{IsOrder};
 
     ghost view = { λ o. o.entries.items };
 
-    ghost invariant = { λ o. Rising o.entries.items };
+    ghost invariant = { λ o. IsOrder o.entries.items };
 }
 
 impl Order {
@@ -51,27 +51,29 @@ impl Order {
         self.entries.clear();
     }
 
-    // The identifier of the session's request.
-    pub(crate) fn find(&self, session: u32) -> Option<u8>
-        ensures found { result ≡ option_map (λ e. e.id) (find (λ e. e.session == session) self.now) }
+    // The name of the session's request.
+    pub(crate) fn find(&self, session: u32) -> Option<u16>
+        ensures found { result ≡ option_map (λ e. e.name) (find (λ e. e.session == session) self.now) }
         ensures rising { Rising self.now }
-        ensures few { length self.now ≤ 240 }
+        ensures small { IfSome result (λ name. name < NAMES) }
+        ensures few { length self.now ≤ MOST_WAITING }
     {
         let at = place_of(self.entries.as_slice(), session);
         match self.entries.get(at) {
-            Some(entry) if entry.session == session => Some(entry.id),
+            Some(entry) if entry.session == session => Some(entry.name),
             _ => None,
         }
     }
 
     // Adds a session that has no request yet.
-    pub(crate) fn insert(&mut self, session: u32, id: u8)
-        requires room { length self.old < 240 }
+    pub(crate) fn insert(&mut self, session: u32, name: u16)
+        requires room { length self.old < MOST_WAITING }
         requires new { find (λ e. e.session == session) self.old ≡ None }
-        ensures { self.new ≡ placed (λ e. e.session) (record { session = session; id = id }) self.old }
+        requires small { name < NAMES }
+        ensures { self.new ≡ placed (λ e. e.session) (record { session = session; name = name }) self.old }
     {
         let at = place_of(self.entries.as_slice(), session);
-        self.entries.insert(at, Entry { session, id });
+        self.entries.insert(at, Entry { session, name });
     }
 
     // Takes the session out, where it is there.
@@ -98,7 +100,8 @@ impl Order {
 
     pub(crate) fn entries(&self) -> &[Entry]
         ensures value { result.now ≡ self.now }
-        ensures few { length result.now ≤ 240 }
+        ensures small { AllByRecursion (λ e. e.name < NAMES) result.now }
+        ensures few { length result.now ≤ MOST_WAITING }
     {
         self.entries.as_slice()
     }

@@ -1,40 +1,34 @@
 //! The requests that wait for an answer.
-ghost use Rattle.std.specs.Prelude.{◌↔◌, IsTrue, ◌≡◌, ◌<◌, ◌≤◌, [], not, length, replicate, filter, find, true, None, IfOk, OnErr};
+ghost use Rattle.std.specs.Prelude.{◌↔◌, IsTrue, ◌≡◌, ◌≢◌, ◌+◌, ◌*◌, ◌<◌, ◌≤◌, not, length, filter, find, true, None, IfOk, IfSome, OnErr};
 ghost use Rattle.std.specs.List.{AllByRecursion};
-ghost use Rattle.aaa_defs.specs.Request.{IsAsk, request_octets};
-ghost use Rattle.aaa_defs.specs.Waits.{AreApart, most_waiting, nothing, pending_of, pending_under, is_free, after_last, next_identifier, with_request, forgotten};
+ghost use Rattle.aaa_defs.specs.declared.TheConstants.{IDENTIFIERS, NAMES, MOST_WAITING};
+ghost use Rattle.aaa_defs.specs.Asking.{new_request};
+ghost use Rattle.aaa_defs.specs.Request.{IsAsk};
+ghost use Rattle.aaa_defs.specs.Waits.{AreApart, nothing, pending_of, pending_under, name_of, socket_of, identifier_of, is_free, after_last, next_name, with_request, forgotten};
 ghost use Rattle.aaa_defs.specs.Age.{aged, aged_at as aged_at_lem, after_second};
 ghost use Rattle.aaa_defs.specs.Answer.{answered};
 ghost use Rattle.aaa_client.specs.Meaning.{meaning, request_in};
 ghost use Rattle.aaa_client.specs.Places.{place, request_of};
 
 use crate::answer::{Taken, checked};
-#[cfg(test)]
-use crate::order::MOST;
 use crate::order::{Entry, Order};
-use crate::pending::Pending;
-use crate::request::{Ask, write_request};
-use aaa_defs::{AaaDrop, Aged};
-use radius_packet::{Builder, parse};
+use crate::pending::{Pending, socket_and_id};
+use crate::request::Ask;
+use aaa_defs::{AaaDrop, Aged, IDENTIFIERS, MOST_WAITING, NAMES};
+use radius_packet::parse;
 use std::alloc::{AllocError, Global};
 use std::marker::Model;
 use switch_event::Config;
 
-// How many identifiers there are.
-const IDENTIFIERS: usize = 256;
-
-// The code of an Access-Request (RFC 2865, section 4.1).
-const ACCESS_REQUEST: u8 = 1;
-
-/// The requests that wait for an answer, at most 240 at once and one for a session, and the
-/// identifier that was used last.
+/// The requests that wait for an answer, at most 960 at once and one for a session, and the name
+/// that was used last. A name is a socket and an identifier.
 #[derive(Drop)]
 pub struct Waits {
-    // A place for each identifier.
+    // A place for each name.
     places: Vec<Pending>,
     // Which places are in use, by their sessions.
     order: Order,
-    last: Option<u8>,
+    last: Option<u16>,
 }
 
 impl Model for Waits {
@@ -51,13 +45,13 @@ impl Model for Waits {
 }
 
 impl Waits {
-    /// Nothing waits, and no identifier was used. Only this call takes memory: about a megabyte.
+    /// Nothing waits, and no name was used. Only this call takes memory: about four megabytes.
     /// `AllocError`: there is none.
     pub fn open(alloc: Global) -> Result<Waits, AllocError>
         ensures { IfOk result (λ w. w ≡ nothing) }
     {
-        let mut places = Vec::with_capacity(alloc, IDENTIFIERS)?;
-        for _n in 0..IDENTIFIERS {
+        let mut places = Vec::with_capacity(alloc, NAMES)?;
+        for _n in 0..NAMES {
             places.push(Pending::empty())?;
         }
         Ok(Waits {
@@ -82,23 +76,23 @@ impl Waits {
     }
 
     /// Builds the Access-Request about a host for a session, which now waits for an answer, and gives
-    /// its identifier: the next of the round from the last used under which nothing waits.
+    /// its socket and its identifier: the next name of the round from the last used under which nothing
+    /// waits.
     ///
-    /// The session must have nothing pending, and fewer than 240 requests may be pending. The octets of
+    /// The session must have nothing pending, and fewer than 960 requests may be pending. The octets of
     /// the request are those that `pending` gives.
-    pub fn ask(&mut self, a: &Ask<'_>, c: &Config, session: u32, auth: [u8; 16]) -> u8
+    pub fn ask(&mut self, a: &Ask<'_>, c: &Config, session: u32, auth: [u8; 16]) -> (u8, u8)
         requires ask { IsAsk a.now }
         requires new { pending_of session self.old ≡ None }
-        requires room { length self.old.requests < most_waiting }
-        ensures identifier { result ≡ next_identifier self.old }
-        ensures free { is_free self.old result ≡ true }
-        ensures waits { self.new ≡ with_request (record { session = session; identifier = result; auth = auth; age = 0; octets = request_octets c.now a.now session result auth }) self.old }
+        requires room { length self.old.requests < MOST_WAITING }
+        ensures socket { result.0 ≡ socket_of (next_name self.old) }
+        ensures identifier { result.1 ≡ identifier_of (next_name self.old) }
+        ensures free { is_free self.old (name_of result.0 result.1) ≡ true }
+        ensures waits { self.new ≡ with_request (new_request c.now a.now session (next_name self.old) auth) self.old }
     {
-        let id = self.next_identifier();
-        let mut packet = Builder::new(ACCESS_REQUEST, id, auth);
-        write_request(&mut packet, a, c, session, auth);
-        self.keep(session, id, auth, packet.octets());
-        id
+        let name = self.next_name();
+        self.keep(a, c, session, name, auth);
+        socket_and_id(name)
     }
 
     /// The request of a session. None exactly where it has none.
@@ -107,7 +101,7 @@ impl Waits {
         ensures apart { AreApart self.now }
     {
         match self.order.find(session) {
-            Some(id) => Some(&self.places[usize::from(id)]),
+            Some(name) => Some(&self.places[usize::from(name)]),
             None => None,
         }
     }
@@ -118,10 +112,10 @@ impl Waits {
         ensures told { result ≡ aged (pending_of session self.old) }
         ensures waits { self.new ≡ after_second session self.old }
     {
-        let Some(id) = self.order.find(session) else {
+        let Some(name) = self.order.find(session) else {
             return Aged::Quiet;
         };
-        let at = usize::from(id);
+        let at = usize::from(name);
         match aged_at(self.places[at].age() + 1) {
             Aged::GaveUp => {
                 self.order.remove(session);
@@ -142,23 +136,31 @@ impl Waits {
         self.order.remove(session);
     }
 
-    /// Takes an answer of the server, which has this secret. The request that it answers is then
-    /// pending no more.
+    /// Takes an answer of the server, which has this secret, that came to a socket. The request that it
+    /// answers is then pending no more. Where `require` holds, each answer must have a
+    /// Message-Authenticator, and else one with EAP.
     ///
     /// Errors: the first check that fails, in the order of `AaaDrop`. All is as before then.
-    pub fn answer<'a>(&mut self, b: &'a [u8], secret: &[u8]) -> Result<Taken<'a>, AaaDrop>
-        ensures answered { meaning result ≡ answered self.old b.now secret.now }
+    pub fn answer<'a>(
+        &mut self,
+        socket: u8,
+        b: &'a [u8],
+        secret: &[u8],
+        require: bool,
+    ) -> Result<Taken<'a>, AaaDrop>
+        ensures answered { meaning result ≡ answered self.old socket b.now secret.now require }
         ensures taken { IfOk result (λ t. self.new ≡ forgotten t.session self.old) }
+        ensures eap { IfOk result (λ t. IfSome t.eap (λ octets. 4 ≤ length octets.items)) }
         ensures dropped { OnErr result (self.new ≡ self.old) }
     {
         let Ok(packet) = parse(b) else {
             return Err(AaaDrop::Malformed);
         };
-        let Some(request) = self.under(packet.id) else {
+        let Some(request) = self.under(socket, packet.id) else {
             return Err(AaaDrop::NoRequest);
         };
         let session = request.session();
-        match checked(&packet, request.auth, secret) {
+        match checked(&packet, request.auth, secret, require) {
             Ok(eap) => {
                 self.forget(session);
                 Ok(Taken {
@@ -171,62 +173,75 @@ impl Waits {
         }
     }
 
-    // Whether as many requests wait as may wait.
-    #[cfg(test)]
-    pub(crate) fn is_full(&self) -> bool
-        ensures { IsTrue result ↔ (most_waiting ≤ length self.now.requests) }
+    /// Whether as many requests wait as may wait at once.
+    pub fn is_full(&self) -> bool
+        ensures { IsTrue result ↔ (MOST_WAITING ≤ length self.now.requests) }
     {
-        self.order.entries().len() >= MOST
+        self.order.entries().len() >= MOST_WAITING
     }
 
-    // The request with an identifier.
-    fn under(&self, id: u8) -> Option<&Pending>
-        ensures { request_in result ≡ pending_under id self.now }
+    // The request with the name of this socket and identifier. Only the sockets 0 to 3 have names.
+    fn under(&self, socket: u8, id: u8) -> Option<&Pending>
+        ensures { request_in result ≡ pending_under (name_of socket id) self.now }
     {
-        let request = &self.places[usize::from(id)];
+        let name = u16::from(socket) * IDENTIFIERS as u16 + u16::from(id);
+        self.named(name)
+    }
+
+    // The request with a name.
+    fn named(&self, name: u16) -> Option<&Pending>
+        ensures { request_in result ≡ pending_under name self.now }
+    {
+        let at = usize::from(name);
+        if at >= self.places.len() {
+            return None;
+        }
+        let request = &self.places[at];
         match self.order.find(request.session()) {
-            Some(found) if found == id => Some(request),
+            Some(found) if found == name => Some(request),
             _ => None,
         }
     }
 
-    // The next identifier of the round under which nothing waits.
-    fn next_identifier(&self) -> u8
-        requires { length self.now.requests < most_waiting }
-        ensures value { result ≡ next_identifier self.now }
+    // The next name of the round under which nothing waits.
+    fn next_name(&self) -> u16
+        requires { length self.now.requests < MOST_WAITING }
+        ensures value { result ≡ next_name self.now }
         ensures free { is_free self.now result ≡ true }
+        ensures small { result < NAMES }
     {
         let first = after(self.last);
-        for step in 0..IDENTIFIERS {
-            let id = first.wrapping_add(step as u8);
-            if self.under(id).is_none() {
-                return id;
+        for step in 0..NAMES {
+            let name = (usize::from(first) + step) % NAMES;
+            if self.named(name as u16).is_none() {
+                return name as u16;
             }
         }
         unreachable!()
     }
 
-    // Keeps a request that is sent now.
-    fn keep(&mut self, session: u32, id: u8, auth: [u8; 16], octets: &[u8])
+    // Builds a request that is sent now, and keeps it.
+    fn keep(&mut self, a: &Ask<'_>, c: &Config, session: u32, name: u16, auth: [u8; 16])
+        requires ask { IsAsk a.now }
         requires new { pending_of session self.old ≡ None }
-        requires room { length self.old.requests < most_waiting }
-        requires free { is_free self.old id ≡ true }
-        requires fits { length octets.now ≤ 4096 }
-        ensures { self.new ≡ with_request (record { session = session; identifier = id; auth = auth; age = 0; octets = octets.now }) self.old }
+        requires room { length self.old.requests < MOST_WAITING }
+        requires free { is_free self.old name ≡ true }
+        requires name { name < NAMES }
+        ensures { self.new ≡ with_request (new_request c.now a.now session name auth) self.old }
     {
-        let request = &mut self.places[usize::from(id)];
-        request.fill(session, id, auth, octets);
-        self.order.insert(session, id);
-        self.last = Some(id);
+        let request = &mut self.places[usize::from(name)];
+        request.build(a, c, session, name, auth);
+        self.order.insert(session, name);
+        self.last = Some(name);
     }
 }
 
-// The identifier after the last one that was used.
-fn after(last: Option<u8>) -> u8
+// The name after the last one that was used.
+fn after(last: Option<u16>) -> u16
     ensures { result ≡ after_last last }
 {
     match last {
-        Some(last) => last.wrapping_add(1),
+        Some(last) => ((usize::from(last) + 1) % NAMES) as u16,
         None => 0,
     }
 }
@@ -244,13 +259,14 @@ fn aged_at(age: u8) -> Aged
 
 // Copies the requests of these entries, each into its place.
 fn copy_places(places: &mut [Pending], from: &[Pending], order: &[Entry])
-    requires places { length places.old ≡ 256 }
-    requires from { length from.now ≡ 256 }
-    ensures length { length places.new ≡ 256 }
+    requires places { length places.old ≡ NAMES }
+    requires from { length from.now ≡ NAMES }
+    requires names { AllByRecursion (λ e. e.name < NAMES) order.now }
+    ensures length { length places.new ≡ NAMES }
     ensures copied { AllByRecursion (λ e. request_of places.new e ≡ request_of from.now e) order.now }
 {
     for entry in order {
-        let at = usize::from(entry.id);
+        let at = usize::from(entry.name);
         let request = &mut places[at];
         request.copy_from(&from[at]);
     }

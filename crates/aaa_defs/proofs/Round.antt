@@ -1,10 +1,10 @@
--- While fewer requests wait than there are identifiers, one of the round is free.
+-- While fewer requests wait than there are names, one of the round is free.
 use Rattle.std.proofs.Common.{◌≡◌, ℕ, zero, suc, ◌+◌, ◌-◌, ◌%◌, ◌≤◌, ◌<◌, Bool, true, false, eqb, not, List, [], ◌∷◌, length, map, Option, Some, None, refl, sym, ap, ◌∙◌, arith, inl, inr}
 use Rattle.std.specs.Prelude.{find, filter, is_some}
 use Rattle.std.specs.List.{range_with_len}
 use Rattle.std.specs.Option.{unwrap_or}
 use Rattle.std.proofs.lemmas.Bool.{cases_Bool, cases_eq, eq-eqb, ne_eqb}
-use Rattle.aaa_defs.specs.Waits.{Pending, Waits, pending_under, is_free, round_from, after_last, next_identifier}
+use Rattle.aaa_defs.specs.Waits.{Pending, Waits, pending_under, is_free, round_from, after_last, next_name}
 
 -- ---- as many as there are numbers that are found
 
@@ -28,7 +28,7 @@ module _ {X : Type 0} (number : X → ℕ) where
         | inr there ↦ rw (ne_eqb (number x) m there) (omega (arith, filter-fewer m rest))
       ]
 
-  filter-less : (m : ℕ) (xs : List X) → is_some (find (λ x. eqb (number x) m) xs) ≡ true → length (filter (λ x. not (eqb (number x) m)) xs) < length xs
+  pub filter-less : (m : ℕ) (xs : List X) → is_some (find (λ x. eqb (number x) m) xs) ≡ true → length (filter (λ x. not (eqb (number x) m)) xs) < length xs
   filter-less m [] found = cc
   filter-less m (x ∷ rest) found =
       elim (cases_eq (number x) m) [
@@ -77,22 +77,22 @@ used : (b : Bool) → not b ≡ false → b ≡ true
 used true e = refl
 used false e = cc
 
-pub some-free : (w : Waits) (first : ℕ) → first < 256 → length w.requests < 256 → find (is_free w) (round_from first) ≡ None → ⊥
+pub some-free : (w : Waits) (first : ℕ) → first < 1024 → length w.requests < 1024 → find (is_free w) (round_from first) ≡ None → ⊥
 some-free w first small few none =
-    let all : (j : ℕ) → j < 256 → is_some (find (λ p. eqb p.identifier j) w.requests) ≡ true =
+    let all : (j : ℕ) → j < 1024 → is_some (find (λ p. eqb p.name j) w.requests) ≡ true =
     λ j below.
-    let k : ℕ = (j + 256 - first) % 256 in
-    let there : (first + k) % 256 ≡ j = omega (arith, small, below) in
-    let free : is_free w ((first + k) % 256) ≡ false = none-at (is_free w) (λ step. (first + step) % 256) 0 256 none k (omega arith) (omega arith) in
+    let k : ℕ = (j + 1024 - first) % 1024 in
+    let there : (first + k) % 1024 ≡ j = omega (arith, small, below) in
+    let free : is_free w ((first + k) % 1024) ≡ false = none-at (is_free w) (λ step. (first + step) % 1024) 0 1024 none k (omega arith) (omega arith) in
     used (is_some (pending_under j w)) (ap (is_free w) (sym there) ∙ free)
     in
-    let many = as_many (λ (p : Pending). p.identifier) 256 w.requests all in
+    let many = as_many (λ (p : Pending). p.name) 1024 w.requests all in
     omega (arith, many, few)
 
-pub next-is : (w : Waits) (id : ℕ) → find (is_free w) (round_from (after_last w.last)) ≡ Some id → id ≡ next_identifier w
-unfolding next_identifier
+pub next-is : (w : Waits) (id : ℕ) → find (is_free w) (round_from (after_last w.last)) ≡ Some id → id ≡ next_name w
+unfolding next_name
 next-is w id found = sym (ap (λ (o : Option ℕ). unwrap_or o 0) found)
 
-pub after-small : (last : Option ℕ) → after_last last < 256
+pub after-small : (last : Option ℕ) → after_last last < 1024
 after-small None = omega arith
 after-small (Some last) = omega arith

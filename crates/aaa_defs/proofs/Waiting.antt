@@ -48,12 +48,12 @@ placed-kept p m (q ∷ rest) other =
       | inr least ↦ rw (le-ltb p.session q.session least) (ap (λ (o : Option Pending). cond (eqb q.session m) (Some q) o) (placed-kept p m rest other))
     ]
 
-placed-length : (p : Pending) (ps : List Pending) → length (placed (λ q. q.session) p ps) ≡ suc (length ps)
-placed-length p [] = refl
-placed-length p (q ∷ rest) =
+pub placed_length : (p : Pending) (ps : List Pending) → length (placed (λ q. q.session) p ps) ≡ suc (length ps)
+placed_length p [] = refl
+placed_length p (q ∷ rest) =
     elim (cases_lt p.session q.session) [
       | inl less ↦ rw (lt-ltb p.session q.session less) refl
-      | inr least ↦ rw (le-ltb p.session q.session least) (ap suc (placed-length p rest))
+      | inr least ↦ rw (le-ltb p.session q.session least) (ap suc (placed_length p rest))
     ]
 
 -- a session that asked has that request; the others have theirs
@@ -64,7 +64,7 @@ pub asked-other : (p : Pending) (m : ℕ) (w : Waits) → (p.session ≡ m → �
 asked-other p m w other = placed-kept p m w.requests other
 
 pub asked-more : (p : Pending) (w : Waits) → length (with_request p w).requests ≡ suc (length w.requests)
-asked-more p w = placed-length p w.requests
+asked-more p w = placed_length p w.requests
 
 older-kept : (n m : ℕ) (ps : List Pending) → (m ≡ n → ⊥) → find (λ p. eqb p.session m) (map (λ p. cond (eqb p.session n) (older p) p) ps) ≡ find (λ p. eqb p.session m) ps
 older-kept n m [] other = refl

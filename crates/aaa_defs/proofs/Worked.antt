@@ -1,4 +1,5 @@
 -- The definitions, computed at values whose meaning is known.
+use Rattle.std.specs.Prelude.{◌||◌}
 use Rattle.std.proofs.Common.{◌≡◌, ℕ, true, false, [], ◌∷◌, ◌++◌, codes, replicate, refl, Some, None}
 use Rattle.wire_defs.specs.Eap.{eap_of}
 use Rattle.radius_defs.specs.declared.Ma.TheVariants.{Absent, Wrong}
@@ -7,19 +8,15 @@ use Rattle.radius_defs.specs.Digest.{zeros}
 use Rattle.switch_event.specs.Config.{empty}
 use Rattle.aaa_defs.specs.declared.Aged.TheVariants.{Quiet, Resend, GaveUp}
 use Rattle.aaa_defs.specs.declared.AaaDrop.TheVariants.{BadCode, BadAuthenticator}
-use Rattle.aaa_defs.specs.Request.{Ask, pieces, request_attributes, session_text}
-use Rattle.aaa_defs.specs.Waits.{Pending, Waits, nothing, pending_of, next_identifier, with_request, forgotten}
+use Rattle.rand_core.specs.Steps.{u32_at}
+use Rattle.rand_chacha.specs.Block.{block_word, double_rounds, column_round, diagonal_round, quarter_round}
+use Rattle.aaa_defs.specs.Request.{Ask, authenticator, pieces, request_attributes}
+use Rattle.aaa_defs.specs.Waits.{Pending, Waits, name_of, nothing, pending_of, pending_under, next_name, with_request, forgotten}
 use Rattle.aaa_defs.specs.Age.{aged_at, after_second}
 use Rattle.aaa_defs.specs.Answer.{carried_in, first_failed, is_bad_message}
 use Rattle.radius_defs.specs.Parsed.{packet_of}
 
 -- ---- the request
-
-session_1 : session_text 1 ≡ codes "00000001"
-session_1 = refl
-
-session_in_upper_case : session_text 3735928559 ≡ codes "DEADBEEF"
-session_in_upper_case = refl
 
 no_pieces : pieces [] ≡ []
 unfolding pieces
@@ -62,23 +59,23 @@ state_before_eap = refl
 -- ---- what waits
 
 abbrev request : ℕ → ℕ → ℕ → Pending
-request session identifier age = record { session = session; identifier = identifier; auth = []; age = age; octets = [] }
+request session name age = record { session = session; name = name; auth = []; age = age; octets = [] }
 
 abbrev two : Waits
-two = record { requests = request 4 0 3 ∷ request 7 255 4 ∷ []; last = Some 254 }
+two = record { requests = request 4 0 3 ∷ request 7 1023 4 ∷ []; last = Some 1022 }
 
-the_first_identifier_is_0 : next_identifier nothing ≡ 0
-unfolding next_identifier
-the_first_identifier_is_0 = refl
+the_first_name_is_0 : next_name nothing ≡ 0
+unfolding next_name
+the_first_name_is_0 = refl
 
-those_that_wait_are_skipped : next_identifier two ≡ 1
-unfolding next_identifier
+those_that_wait_are_skipped : next_name two ≡ 1
+unfolding next_name
 those_that_wait_are_skipped = refl
 
-in_the_order_of_sessions : with_request (request 5 1 0) two ≡ record { requests = request 4 0 3 ∷ request 5 1 0 ∷ request 7 255 4 ∷ []; last = Some 1 }
+in_the_order_of_sessions : with_request (request 5 1 0) two ≡ record { requests = request 4 0 3 ∷ request 5 1 0 ∷ request 7 1023 4 ∷ []; last = Some 1 }
 in_the_order_of_sessions = refl
 
-one_is_forgotten : forgotten 4 two ≡ record { requests = request 7 255 4 ∷ []; last = Some 254 }
+one_is_forgotten : forgotten 4 two ≡ record { requests = request 7 1023 4 ∷ []; last = Some 1022 }
 one_is_forgotten = refl
 
 none_of_a_stranger : pending_of 5 two ≡ None
@@ -98,10 +95,10 @@ at_10 = refl
 at_15 : aged_at 15 ≡ GaveUp
 at_15 = refl
 
-a_second_of_one : after_second 7 two ≡ record { requests = request 4 0 3 ∷ request 7 255 5 ∷ []; last = Some 254 }
+a_second_of_one : after_second 7 two ≡ record { requests = request 4 0 3 ∷ request 7 1023 5 ∷ []; last = Some 1022 }
 a_second_of_one = refl
 
-the_last_second : after_second 4 (record two { requests = request 4 0 14 ∷ request 7 255 4 ∷ [] }) ≡ record { requests = request 7 255 4 ∷ []; last = Some 254 }
+the_last_second : after_second 4 (record two { requests = request 4 0 14 ∷ request 7 1023 4 ∷ [] }) ≡ record { requests = request 7 1023 4 ∷ []; last = Some 1022 }
 the_last_second = refl
 
 -- ---- answers
@@ -141,3 +138,19 @@ no_response_in_a_challenge = refl
 no_packet_in_19_octets : packet_of (2 ∷ 9 ∷ 0 ∷ 20 ∷ zeros 15) ≡ None
 unfolding packet_of
 no_packet_in_19_octets = refl
+
+-- where the settings want one it is wanted everywhere
+none_where_one_is_wanted : is_bad_message (false || true) Absent ≡ true
+none_where_one_is_wanted = refl
+
+-- names are a socket and an identifier
+name_of_the_last : name_of 3 255 ≡ 1023
+name_of_the_last = refl
+
+none_of_socket_4 : pending_under (name_of 4 0) two ≡ None
+none_of_socket_4 = refl
+
+-- the first authenticator of a seed of zeros (the key stream of ChaCha20 under a key of zeros)
+the_first_authenticator : authenticator (zeros 32) 0 ≡ 0x76 ∷ 0xb8 ∷ 0xe0 ∷ 0xad ∷ 0xa0 ∷ 0xf1 ∷ 0x3d ∷ 0x90 ∷ 0x40 ∷ 0x5d ∷ 0x6a ∷ 0xe5 ∷ 0x53 ∷ 0x86 ∷ 0xbd ∷ 0x28 ∷ []
+unfolding authenticator u32_at block_word double_rounds column_round diagonal_round quarter_round
+the_first_authenticator = refl

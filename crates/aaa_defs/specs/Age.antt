@@ -29,3 +29,13 @@ after_aging Quiet session w = with_older session w
 -- the requests after a second of this session
 abbrev pub after_second : ℕ → Waits → Waits
 after_second session w = after_aging (aged (pending_of session w)) session w
+
+-- what a second leaves of a request that may be there: nothing where it is given up
+abbrev pub left_of : Aged → Pending → Option Pending
+left_of GaveUp p = None
+left_of Resend p = Some (older p)
+left_of Quiet p = Some (older p)
+
+abbrev pub aged_request : Option Pending → Option Pending
+aged_request None = None
+aged_request (Some p) = left_of (aged_at (p.age + 1)) p

@@ -1,5 +1,5 @@
-//! Typed values of RADIUS attributes: numbers, the VLAN, the session's time, the
-//! Message-Authenticator, and which attributes a dynamic request may have. No call takes memory.
+//! Typed values of RADIUS attributes: numbers, a session's number as text, the VLAN, the session's
+//! time, the Message-Authenticator, and which attributes a dynamic request may have. No call takes memory.
 #![tactic(auto)]
 
 mod message;
@@ -9,4 +9,4 @@ mod values;
 
 pub use message::message_state;
 pub use radius_defs::{Ma, Timeout, Tunnel};
-pub use values::{allowed, number, timeout, tunnel};
+pub use values::{allowed, first_number, number, session_text, timeout, tunnel};

@@ -7,12 +7,12 @@ ghost use Rattle.radius_attrs.specs.Places.{StandsAt};
 
 use radius_auth::message_auth;
 use radius_defs::Ma;
+use radius_defs::attribute::MESSAGE_AUTHENTICATOR;
+use radius_defs::limit::HEADER_OCTETS;
 use radius_packet::{Attributes, Packet};
 
-const MESSAGE_AUTHENTICATOR: u8 = 80;
-
 /// What the packet's Message-Authenticator is under this authenticator of the packet: Right where
-/// exactly one attribute has type 80, and it has the 16 octets of `message_auth`.
+/// there is exactly one, and it has the 16 octets of `message_auth`; Wrong where there are more.
 pub fn message_state(p: &Packet<'_>, auth: [u8; 16], secret: &[u8]) -> Ma
     ensures { result ≡ message_state_of p.now auth secret.now }
 {
@@ -38,7 +38,7 @@ fn first_with_place<'a>(p: &Packet<'a>, ty: u8) -> Option<(usize, &'a [u8], Attr
     ensures { MatchOption result (those_of ty p.now.attributes ≡ []) (λ found. StandsAt p.now ty found.0 found.1.now found.2) }
 {
     let mut attributes = p.attributes();
-    let mut at = 20;
+    let mut at = HEADER_OCTETS;
     while let Some((kind, value)) = attributes.next() {
         at += 2;
         if kind == ty {

@@ -1,4 +1,4 @@
-use crate::{Ma, Timeout, Tunnel, allowed, message_state, timeout, tunnel};
+use crate::{Ma, Timeout, Tunnel, allowed, message_state, session_text, timeout, tunnel};
 use radius_packet::{Builder, parse};
 use std::test::Fail;
 
@@ -73,6 +73,12 @@ fn a_message_authenticator_counts_once(rt: HostRuntime) -> Result<(), Fail> {
     assert_eq!(rt; message_state(&signed, auth, b"Secret"), Ma::Wrong);
     assert_eq!(rt; message_state(&signed, [0; 16], b"secret"), Ma::Wrong);
     Ok(())
+}
+
+#[test]
+fn a_session_has_eight_digits_in_upper_case(rt: HostRuntime) {
+    assert_eq!(rt; session_text(1), *b"00000001");
+    assert_eq!(rt; session_text(0xdead_beef), *b"DEADBEEF");
 }
 
 #[test]

@@ -6,8 +6,8 @@ use Rattle.radius_defs.specs.declared.Timeout.TheVariants.{Unset, End, Reauth}
 use Rattle.radius_defs.specs.declared.Ma.TheVariants.{Right, Wrong}
 use Rattle.radius_defs.specs.Packet.{Attribute, packet_text, PacketOf, first_value, eap_of}
 use Rattle.radius_defs.specs.Digest.{zeros}
-use Rattle.radius_defs.specs.Attributes.{number_of, tunnel_of, timeout_of, is_allowed}
-use Rattle.radius_defs.specs.Message.{message_from}
+use Rattle.radius_defs.specs.Attributes.{number_of, session_text, tunnel_of, timeout_of, is_allowed}
+use Rattle.radius_defs.specs.Message.{message_from, with_message, first_place}
 use Rattle.radius_defs.specs.Grant.{grant_of}
 
 -- a Challenge with two pieces of EAP and a State between them
@@ -91,6 +91,20 @@ one_right_value = refl
 
 two_right_values : message_from (record { kind = 80; value = zeros 16 } ∷ record { kind = 80; value = zeros 16 } ∷ []) (zeros 16) ≡ Wrong
 two_right_values = refl
+
+-- the Message-Authenticator stands before the others, its value at place 22
+message_before_others : packet_text (with_message (record { code = 1; identifier = 7; authenticator = zeros 16; attributes = record { kind = 1; value = codes "bob" } ∷ [] }) (codes "0123456789abcdef"))
+    ≡ 1 ∷ 7 ∷ 0 ∷ 43 ∷ zeros 16 ++ 80 ∷ 18 ∷ codes "0123456789abcdef" ++ 1 ∷ 5 ∷ codes "bob"
+message_before_others = refl
+
+place_of_the_first_value : first_place ≡ 22
+place_of_the_first_value = refl
+
+session_1 : session_text 1 ≡ codes "00000001"
+session_1 = refl
+
+session_in_upper_case : session_text 3735928559 ≡ codes "DEADBEEF"
+session_in_upper_case = refl
 
 cause_in_a_disconnect : is_allowed 40 49 ≡ true
 cause_in_a_disconnect = refl

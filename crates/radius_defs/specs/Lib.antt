@@ -4,4 +4,5 @@ pub mod Digest
 pub mod Attributes
 pub mod Message
 pub mod Grant
+pub mod InRange
 pub mod Parsed

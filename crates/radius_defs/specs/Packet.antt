@@ -5,6 +5,8 @@ use Rattle.std.specs.Option.{option_map}
 use Rattle.wire_defs.specs.Number.{two_octets, pair}
 use Rattle.radius_defs.specs.declared.RadDrop.{RadDrop}
 use Rattle.radius_defs.specs.declared.RadDrop.TheVariants.{Short, BadLength, BadAttribute}
+use Rattle.radius_defs.specs.declared.attribute.TheConstants.{EAP_MESSAGE}
+use Rattle.radius_defs.specs.declared.limit.TheConstants.{HEADER_OCTETS, MOST_OCTETS}
 
 -- an attribute: its type and its value (RFC 2865, section 5)
 pub record Attribute : Type 0 where
@@ -28,16 +30,20 @@ attributes_text attributes = flat_map attribute_text attributes
 -- the octets of a packet with these attribute octets
 abbrev pub text_of : ℕ → ℕ → List ℕ → List ℕ → List ℕ
 text_of code identifier authenticator body =
-    code ∷ identifier ∷ two_octets (20 + length body) ++ authenticator ++ body
+    code ∷ identifier ∷ two_octets (HEADER_OCTETS + length body) ++ authenticator ++ body
 
 -- code, identifier, length, authenticator, and the attributes one after another
 abbrev pub packet_text : Packet → List ℕ
 packet_text p = text_of p.code p.identifier p.authenticator (attributes_text p.attributes)
 
--- what has a text: an authenticator of 16 octets, and 4,096 octets at most in all
+-- how many octets a packet has
+unfoldable pub size_of : Packet → ℕ
+size_of p = length (packet_text p)
+
+-- what has a text: an authenticator of 16 octets, and no more octets in all than a packet can have
 pub record Fits (p : Packet) : Type 0 where
   pub authenticator : length p.authenticator ≡ 16
-  pub body : length (attributes_text p.attributes) ≤ 4076
+  pub body : HEADER_OCTETS + length (attributes_text p.attributes) ≤ MOST_OCTETS
 
 -- the octets are a packet, and padding behind it
 pub record IsPacket (octets : List ℕ) (p : Packet) : Type 0 where
@@ -49,9 +55,9 @@ pub record IsPacket (octets : List ℕ) (p : Packet) : Type 0 where
 abbrev pub stated_length : List ℕ → ℕ
 stated_length octets = pair octets 2
 
--- the octets of the attributes: those behind the first 20, up to the stated length
+-- the octets of the attributes: those behind the header, up to the stated length
 abbrev pub body_of : List ℕ → List ℕ
-body_of octets = drop 20 (take (stated_length octets) octets)
+body_of octets = drop HEADER_OCTETS (take (stated_length octets) octets)
 
 -- no attribute stands at the front: there is no length octet, a length below 2, or one past the end
 abbrev pub IsBroken : List ℕ → Type 0
@@ -59,26 +65,28 @@ IsBroken [] = ⊥
 IsBroken (kind ∷ []) = Unit {0}
 IsBroken (kind ∷ size ∷ after) = (size < 2) ⊎ (length after + 2 < size)
 
--- behind the first 20 octets: whole attributes up to `at`, and none there
+-- behind the header: whole attributes up to `at`, and none there
 pub record BreaksAt (body : List ℕ) (at : ℕ) : Type 0 where
   pub attributes : List Attribute
   pub rest : List ℕ
   pub split : body ≡ attributes_text attributes ++ rest
-  pub place : at ≡ 20 + length (attributes_text attributes)
+  pub place : at ≡ HEADER_OCTETS + length (attributes_text attributes)
   pub broken : IsBroken rest
 
 -- the stated length is one that a packet can have, and so many octets are there
 pub record HasLength (octets : List ℕ) : Type 0 where
-  pub least : 20 ≤ stated_length octets
-  pub most : stated_length octets ≤ 4096
+  pub least : HEADER_OCTETS ≤ stated_length octets
+  pub most : stated_length octets ≤ MOST_OCTETS
   pub there : stated_length octets ≤ length octets
 
 -- the packet, or the first line that applies
 abbrev pub PacketOf : List ℕ → Result Packet RadDrop → Type 0
 PacketOf octets (Ok p) = IsPacket octets p
-PacketOf octets (Err Short) = length octets < 20
-PacketOf octets (Err BadLength) = (20 ≤ length octets) × ((stated_length octets < 20) ⊎ (4096 < stated_length octets) ⊎ (length octets < stated_length octets))
-PacketOf octets (Err (BadAttribute at)) = (20 ≤ length octets) × HasLength octets × BreaksAt (body_of octets) at
+PacketOf octets (Err Short) = length octets < HEADER_OCTETS
+PacketOf octets (Err BadLength) =
+    (HEADER_OCTETS ≤ length octets)
+    × ((stated_length octets < HEADER_OCTETS) ⊎ (MOST_OCTETS < stated_length octets) ⊎ (length octets < stated_length octets))
+PacketOf octets (Err (BadAttribute at)) = (HEADER_OCTETS ≤ length octets) × HasLength octets × BreaksAt (body_of octets) at
 
 -- the value of the first attribute of this type
 abbrev pub first_value : ℕ → List Attribute → Option (List ℕ)
@@ -92,9 +100,9 @@ those_of kind attributes = filter (λ a. a.kind == kind) attributes
 abbrev pub joined_values : ℕ → List Attribute → List ℕ
 joined_values kind attributes = flat_map (λ a. a.value) (those_of kind attributes)
 
--- the EAP packet, in attributes of type 79 (RFC 3579, section 3.1)
+-- the EAP packet, in attributes EAP-Message (RFC 3579, section 3.1)
 abbrev pub eap_of : List Attribute → List ℕ
-eap_of attributes = joined_values 79 attributes
+eap_of attributes = joined_values EAP_MESSAGE attributes
 
 -- the octets with a piece written over those from `at` on
 abbrev pub written_over : List ℕ → ℕ → List ℕ → List ℕ

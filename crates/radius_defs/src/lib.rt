@@ -1,6 +1,12 @@
 //! The definitions of RADIUS packets, digests, attributes and grants that contracts cite. They
-//! stand in specs/; here are the plain enums and structs that they speak of.
+//! stand in specs/; here are the plain enums, structs and named numbers that they speak of.
 #![tactic(auto)]
+
+pub mod attribute;
+pub mod cause;
+pub mod code;
+pub mod limit;
+pub mod value;
 
 /// Why octets are no RADIUS packet (RFC 2865, section 3).
 #[derive(Clone, Copy, Debug, PartialEq, Eq)]

@@ -1,0 +1,2 @@
+pub mod ShortValues
+pub mod HeaderOnly

@@ -1,17 +1,19 @@
 //! Packets that are built, one attribute after another.
 ghost use Rattle.std.specs.Prelude.{◌≡◌, ◌+◌, ◌≤◌, ◌<◌, ◌↔◌, ◌++◌, ◌∷◌, [], List, length, IsOk, OnOk, OnErr, Ok};
 ghost use Rattle.arrayvec.specs.ArrayVec.{array_vec_len};
-ghost use Rattle.radius_defs.specs.Packet.{Packet as Parts, Attribute, attributes_text, packet_text, Fits, HasValueAt, PacketOf, written_over};
+ghost use Rattle.radius_defs.specs.Packet.{Packet as Parts, Attribute, attributes_text, packet_text, size_of, Fits, HasValueAt, PacketOf, written_over};
+ghost use Rattle.radius_defs.specs.declared.limit.TheConstants.{HEADER_OCTETS, MOST_OCTETS, MOST_VALUE};
 
 use arrayvec::ArrayVec;
+use radius_defs::limit::{MOST_OCTETS, MOST_VALUE};
 use std::marker::Model;
-use wire_core::Room;
+use wire_core::{Room, two_octets};
 
 /// A packet that is being built. Its octets are a whole packet at each moment. Contracts see its
 /// code, identifier, authenticator and list of attributes.
 #[derive(Drop)]
 pub struct Builder {
-    octets: ArrayVec<u8, 4096>,
+    octets: ArrayVec<u8, MOST_OCTETS>,
 }
 
 impl Model for Builder {
@@ -30,33 +32,59 @@ impl Model for Builder {
 impl Builder {
     /// A packet with no attribute.
     pub fn new(code: u8, id: u8, auth: [u8; 16]) -> Builder
-        ensures { result ≡ record { code = code; identifier = id; authenticator = auth; attributes = [] } }
+        ensures packet { result ≡ record { code = code; identifier = id; authenticator = auth; attributes = [] } }
+        ensures size { size_of result ≡ HEADER_OCTETS }
     {
         let mut octets = ArrayVec::new();
-        append(&mut octets, &[code, id, 0, 20]);
-        append(&mut octets, &auth);
+        write_header(&mut octets, code, id, auth);
         Builder { octets }
+    }
+
+    /// Begins a packet with no attribute in place of this one.
+    pub fn restart(&mut self, code: u8, id: u8, auth: [u8; 16])
+        ensures packet { self.new ≡ record { code = code; identifier = id; authenticator = auth; attributes = [] } }
+        ensures size { size_of self.new ≡ HEADER_OCTETS }
+    {
+        write_header(&mut self.octets, code, id, auth);
+    }
+
+    /// Makes this the same packet as the other.
+    pub fn copy_from(&mut self, other: &Builder)
+        ensures { self.new ≡ other.now }
+    {
+        self.octets.clear();
+        append(&mut self.octets, other.octets.as_slice());
     }
 
     /// Puts an attribute at the end. Room where its value has more than 253 octets or the packet
     /// would pass 4,096; the packet is as before then.
+    #[tactic(auto, unfolding(radius_defs::specs::Packet::size_of))]
     pub fn put(&mut self, ty: u8, value: &[u8]) -> Result<(), Room>
-        ensures variant { IsOk result ↔ (length value.now ≤ 253) × (length (packet_text self.old) + 2 + length value.now ≤ 4096) }
-        ensures ok { OnOk result (self.new ≡ record self.old { attributes = self.old.attributes ++ record { kind = ty; value = value.now } ∷ [] }) }
+        ensures variant { IsOk result ↔ (length value.now ≤ MOST_VALUE) × (size_of self.old + 2 + length value.now ≤ MOST_OCTETS) }
+        ensures ok { OnOk result (self.new
+            ≡ record self.old { attributes = self.old.attributes ++ record { kind = ty; value = value.now } ∷ [] }) }
         ensures err { OnErr result (self.new ≡ self.old) }
     {
         let length = self.octets.len() + 2 + value.len();
-        if value.len() > 253 || length > 4096 {
+        if value.len() > MOST_VALUE || length > MOST_OCTETS {
             return Err(Room);
         }
         append(&mut self.octets, &[ty, value.len() as u8 + 2]);
         append(&mut self.octets, value);
-        overwrite(
-            &mut self.octets,
-            2,
-            &[(length / 256) as u8, (length % 256) as u8],
-        );
+        overwrite(&mut self.octets, 2, &two_octets(length as u16));
         Ok(())
+    }
+
+    /// Puts an attribute at the end, where its value has at most 253 octets and there is room for it.
+    #[tactic(auto, unfolding(radius_defs::specs::Packet::size_of))]
+    pub fn add(&mut self, ty: u8, value: &[u8])
+        requires value { length value.now ≤ MOST_VALUE }
+        requires room { size_of self.old + 2 + length value.now ≤ MOST_OCTETS }
+        ensures added { self.new
+            ≡ record self.old { attributes = self.old.attributes ++ record { kind = ty; value = value.now } ∷ [] } }
+        ensures size { size_of self.new ≡ size_of self.old + 2 + length value.now }
+    {
+        let _fits = self.put(ty, value);
     }
 
     /// Writes another authenticator.
@@ -87,16 +115,25 @@ impl Builder {
     }
 }
 
+// Replaces what is there by a header that says that no attribute follows.
+fn write_header(out: &mut ArrayVec<u8, MOST_OCTETS>, code: u8, id: u8, auth: [u8; 16])
+    ensures { out.new.items ≡ code ∷ id ∷ 0 ∷ 20 ∷ auth }
+{
+    out.clear();
+    append(out, &[code, id, 0, 20]);
+    append(out, &auth);
+}
+
 // Appends octets for which there is room.
-pub(crate) fn append(out: &mut ArrayVec<u8, 4096>, octets: &[u8])
-    requires { array_vec_len out.old + length octets.now ≤ 4096 }
+pub(crate) fn append(out: &mut ArrayVec<u8, MOST_OCTETS>, octets: &[u8])
+    requires { array_vec_len out.old + length octets.now ≤ MOST_OCTETS }
     ensures { out.new.items ≡ out.old.items ++ octets.now }
 {
     let _ = out.try_extend_from_slice(octets);
 }
 
 // Writes octets over those that stand from `at` on.
-fn overwrite(out: &mut ArrayVec<u8, 4096>, at: usize, piece: &[u8])
+fn overwrite(out: &mut ArrayVec<u8, MOST_OCTETS>, at: usize, piece: &[u8])
     requires { at + length piece.now ≤ array_vec_len out.old }
     ensures { out.new.items ≡ written_over out.old.items at piece.now }
 {

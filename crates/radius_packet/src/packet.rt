@@ -1,19 +1,20 @@
 //! A packet that was read, and its parts.
-ghost use Rattle.std.specs.Prelude.{◌≡◌, ◌≤◌, ◌==◌, ℕ, length, count_by, find, if◌then◌else◌, is_some, slice_get, Result, Some, None};
+ghost use Rattle.std.specs.Prelude.{◌≡◌, ◌≤◌, ◌==◌, ℕ, length, count_by, find, if◌then◌else◌, is_some, slice_get, IfSome, Result, Some, None};
 ghost use Rattle.std.specs.List.{All};
 ghost use Rattle.std.specs.Option.{option_map, option_or};
 ghost use Rattle.radius_defs.specs.Packet.{Packet as Parts, PacketOf, Fits, packet_text, first_value, eap_of};
 ghost use Rattle.radius_defs.specs.declared.RadDrop.{RadDrop};
+ghost use Rattle.radius_defs.specs.declared.attribute.TheConstants.{EAP_MESSAGE};
+ghost use Rattle.radius_defs.specs.declared.limit.TheConstants.{MOST_VALUE};
 ghost use Rattle.radius_packet.specs.Views.{attribute, value_in};
 
 use crate::attributes::{Attributes, broken_at};
 use crate::builder::append;
 use arrayvec::ArrayVec;
 use radius_defs::RadDrop;
+use radius_defs::attribute::EAP_MESSAGE;
+use radius_defs::limit::{HEADER_OCTETS, MOST_OCTETS};
 use std::marker::Model;
-
-/// The type of an EAP-Message attribute (RFC 3579, section 3.1).
-const EAP_MESSAGE: u8 = 79;
 
 /// A packet that was read, where it lies. Contracts see its code, identifier, authenticator and
 /// list of attributes.
@@ -46,9 +47,9 @@ impl<'a> Packet<'a> {
     pub fn attributes(&self) -> Attributes<'a>
         ensures same { result ≡ self.now.attributes }
         ensures fits { Fits self.now }
-        ensures short { All (λ a. length a.value ≤ 253) result }
+        ensures short { All (λ a. length a.value ≤ MOST_VALUE) result }
     {
-        let (_header, body) = self.octets.split_at(20);
+        let (_header, body) = self.octets.split_at(HEADER_OCTETS);
         Attributes::new(body)
     }
 
@@ -61,7 +62,8 @@ impl<'a> Packet<'a> {
 
     /// The type and the value of attribute `n`, counted from 0. None where there are at most `n`.
     pub fn nth(&self, n: usize) -> Option<(u8, &'a [u8])>
-        ensures { option_map attribute result ≡ slice_get self.now.attributes n }
+        ensures found { option_map attribute result ≡ slice_get self.now.attributes n }
+        ensures short { IfSome result (λ a. length a.1.now ≤ MOST_VALUE) }
     {
         self.attributes().nth(n)
     }
@@ -75,14 +77,16 @@ impl<'a> Packet<'a> {
 
     // The first attribute that has the type.
     fn first_with(&self, ty: u8) -> Option<(u8, &'a [u8])>
-        ensures { option_map attribute result ≡ find (λ a. a.kind == ty) self.now.attributes }
+        ensures found { option_map attribute result ≡ find (λ a. a.kind == ty) self.now.attributes }
+        ensures short { IfSome result (λ a. length a.1.now ≤ MOST_VALUE) }
     {
         self.attributes().find(|a| a.0 == ty)
     }
 
-    /// The value of the first attribute that has the type. None where none has it.
+    /// The value of the first attribute that has the type, at most 253 octets. None where none has it.
     pub fn first(&self, ty: u8) -> Option<&'a [u8]>
-        ensures { value_in result ≡ first_value ty self.now.attributes }
+        ensures found { value_in result ≡ first_value ty self.now.attributes }
+        ensures short { IfSome result (λ v. length v.now ≤ MOST_VALUE) }
     {
         match self.first_with(ty) {
             Some((_kind, value)) => Some(value),
@@ -100,6 +104,9 @@ impl<'a> Packet<'a> {
         ensures first { value_in result.0 ≡ first_value a self.now.attributes }
         ensures second { value_in result.1 ≡ first_value b self.now.attributes }
         ensures third { value_in result.2 ≡ first_value c self.now.attributes }
+        ensures short_first { IfSome result.0 (λ v. length v.now ≤ MOST_VALUE) }
+        ensures short_second { IfSome result.1 (λ v. length v.now ≤ MOST_VALUE) }
+        ensures short_third { IfSome result.2 (λ v. length v.now ≤ MOST_VALUE) }
     {
         let mut first = None;
         let mut second = None;
@@ -112,11 +119,11 @@ impl<'a> Packet<'a> {
         (first, second, third)
     }
 
-    /// Replaces `out` by the joined values of the attributes of type 79, EAP-Message (RFC 3579,
-    /// section 3.1). False where there is none, and then `out` is empty.
-    pub fn eap(&self, out: &mut ArrayVec<u8, 4096>) -> bool
+    /// Replaces `out` by the joined values of the EAP-Message attributes (RFC 3579, section 3.1). False
+    /// where there is none, and then `out` is empty.
+    pub fn eap(&self, out: &mut ArrayVec<u8, MOST_OCTETS>) -> bool
         ensures joined { out.new.items ≡ eap_of self.now.attributes }
-        ensures found { result ≡ is_some (first_value 79 self.now.attributes) }
+        ensures found { result ≡ is_some (first_value EAP_MESSAGE self.now.attributes) }
     {
         out.clear();
         let mut is_there = false;
@@ -148,20 +155,20 @@ pub fn parse(b: &[u8]) -> Result<Packet<'_>, RadDrop>
     ensures exact { PacketOf b.now result }
     ensures only { (r : Result Parts RadDrop) → PacketOf b.now r → r ≡ result }
 {
-    if b.len() < 20 {
+    if b.len() < HEADER_OCTETS {
         return Err(RadDrop::Short);
     }
     let length = usize::from(b[2]) * 256 + usize::from(b[3]);
-    if length < 20 || length > 4096 || length > b.len() {
+    if length < HEADER_OCTETS || length > MOST_OCTETS || length > b.len() {
         return Err(RadDrop::BadLength);
     }
     let (octets, _padding) = b.split_at(length);
-    let (_header, body) = octets.split_at(20);
+    let (_header, body) = octets.split_at(HEADER_OCTETS);
     match broken_at(body) {
         Some(at) => Err(RadDrop::BadAttribute { at }),
         None => {
             let mut auth = [0; 16];
-            auth.copy_from_slice(&b[4..20]);
+            auth.copy_from_slice(&b[4..HEADER_OCTETS]);
             Ok(Packet {
                 code: b[0],
                 id: b[1],

@@ -2,6 +2,7 @@ use Rattle.std.proofs.Common.{◌≡◌, ℕ, min, ◌+◌, ◌*◌, ◌/◌, �
 use Rattle.std.proofs.lemmas.Bool.{cases_lt, eqb-true, eqb-false}
 use Rattle.std.proofs.lemmas.List.{take_all, length-take, length-drop, nil_from_length}
 use Rattle.radius_defs.specs.Packet.{Attribute, Packet}
+use Rattle.radius_defs.specs.declared.attribute.TheConstants.{EAP_MESSAGE}
 use Rattle.aaa_defs.specs.Request.{attribute, pieces}
 use Rattle.aaa_defs.proofs.Pieces.{pieces-more, pieces-none}
 use Rattle.aaa_client.proofs.request.put_eap.Goals as goal
@@ -39,23 +40,23 @@ loop-rest-preserved c =
     let front : List Attribute = c.loop-rest.packet.attributes in
     let piece : c.split_at.result.0.now ≡ take n rest = c.split_at.ensures.front in
     let back : c.split_at.result.1.now ≡ drop n rest = c.split_at.ensures.back in
-    let all : (front ++ attribute 79 c.split_at.result.0.now ∷ []) ++ map (attribute 79) (pieces c.split_at.result.1.now) ≡ front ++ map (attribute 79) (pieces rest) =
-    append_assoc front (attribute 79 c.split_at.result.0.now ∷ []) (map (attribute 79) (pieces c.split_at.result.1.now))
-    ∙ ap (λ (p : List ℕ). front ++ attribute 79 p ∷ map (attribute 79) (pieces c.split_at.result.1.now)) piece
-    ∙ ap (λ (p : List ℕ). front ++ attribute 79 (take n rest) ∷ map (attribute 79) (pieces p)) back
-    ∙ ap (λ (ps : List (List ℕ)). front ++ map (attribute 79) ps) (one-piece rest n some c.min.ensures) in (
-      ap (λ (q : Packet). record q { attributes = q.attributes ++ map (attribute 79) (pieces c.split_at.result.1.now) }) c.put.ensures.attributes
+    let all : (front ++ attribute EAP_MESSAGE c.split_at.result.0.now ∷ []) ++ map (attribute EAP_MESSAGE) (pieces c.split_at.result.1.now) ≡ front ++ map (attribute EAP_MESSAGE) (pieces rest) =
+    append_assoc front (attribute EAP_MESSAGE c.split_at.result.0.now ∷ []) (map (attribute EAP_MESSAGE) (pieces c.split_at.result.1.now))
+    ∙ ap (λ (p : List ℕ). front ++ attribute EAP_MESSAGE p ∷ map (attribute EAP_MESSAGE) (pieces c.split_at.result.1.now)) piece
+    ∙ ap (λ (p : List ℕ). front ++ attribute EAP_MESSAGE (take n rest) ∷ map (attribute EAP_MESSAGE) (pieces p)) back
+    ∙ ap (λ (ps : List (List ℕ)). front ++ map (attribute EAP_MESSAGE) ps) (one-piece rest n some c.min.ensures) in (
+      ap (λ (q : Packet). record q { attributes = q.attributes ++ map (attribute EAP_MESSAGE) (pieces c.split_at.result.1.now) }) c.add.ensures.added
           ∙ ap (λ (xs : List Attribute). record c.loop-rest.packet { attributes = xs }) all
           ∙ c.loop-rest.invariant.0,
-      omega (arith, c.loop-rest.invariant.1, c.put.ensures.size, room-left rest n some c.min.ensures, ap length piece, ap length back),
+      omega (arith, c.loop-rest.invariant.1, c.add.ensures.size, room-left rest n some c.min.ensures, ap length piece, ap length back),
     )
 
 pub returns-clause-attributes : goal.returns-clause-attributes
 returns-clause-attributes c =
     let rest : List ℕ = c.loop-rest.rest.now in
     let none : rest ≡ [] = nil_from_length rest (eqb-true (length rest) 0 (sym c.is_empty.ensures ∙ c.loop-rest-test.false)) in
-    let same : c.loop-rest.packet.attributes ++ map (attribute 79) (pieces rest) ≡ c.loop-rest.packet.attributes =
-    ap (λ (xs : List ℕ). c.loop-rest.packet.attributes ++ map (attribute 79) (pieces xs)) none
-    ∙ ap (λ (ps : List (List ℕ)). c.loop-rest.packet.attributes ++ map (attribute 79) ps) pieces-none
+    let same : c.loop-rest.packet.attributes ++ map (attribute EAP_MESSAGE) (pieces rest) ≡ c.loop-rest.packet.attributes =
+    ap (λ (xs : List ℕ). c.loop-rest.packet.attributes ++ map (attribute EAP_MESSAGE) (pieces xs)) none
+    ∙ ap (λ (ps : List (List ℕ)). c.loop-rest.packet.attributes ++ map (attribute EAP_MESSAGE) ps) pieces-none
     ∙ append-nil c.loop-rest.packet.attributes in
     ap (λ (xs : List Attribute). record c.loop-rest.packet { attributes = xs }) (sym same) ∙ c.loop-rest.invariant.0

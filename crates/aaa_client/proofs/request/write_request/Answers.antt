@@ -1,27 +1,37 @@
-use Rattle.std.proofs.Common.{◌≡◌, ◌∙◌, ◌+◌, ◌≤◌, ℕ, List, length, true, Result, Ok, Err, refl, ap, sym, arith}
-use Rattle.std.specs.Result.{OnOk, is_ok}
-use Rattle.radius_defs.specs.Packet.{Packet, packet_text, first_value}
-use Rattle.aaa_defs.specs.Request.{signed_by}
+use Rattle.std.proofs.Common.{◌≡◌, ◌∙◌, ℕ, List, [], ◌++◌, ap, sym}
+use Rattle.switch_event.specs.Config.{Config}
+use Rattle.radius_defs.specs.declared.attribute.TheConstants.{MESSAGE_AUTHENTICATOR}
+use Rattle.radius_defs.specs.declared.code.TheConstants.{ACCESS_REQUEST}
+use Rattle.radius_defs.specs.Packet.{Packet, first_value}
+use Rattle.radius_defs.specs.Digest.{zeros}
+use Rattle.radius_defs.specs.Message.{behind_first, signed, with_message, AwaitsSigning}
+use Rattle.aaa_defs.specs.Request.{Ask, request_attributes, unsigned_request}
 use Rattle.aaa_defs.proofs.Unsigned.{not-signed}
-use Rattle.aaa_client.specs.Sizes.{size_of}
 use Rattle.aaa_client.proofs.request.write_request.Goals as goal
 
-size-is : (p : Packet) → size_of p ≡ length (packet_text p)
-unfolding size_of
-size-is p = refl
+-- the request, with zeros for its Message-Authenticator
+built : (c : Config) (a : Ask) (session identifier : ℕ) (auth : List ℕ) (begun put : Packet)
+    → put ≡ record begun { attributes = begun.attributes ++ request_attributes c a session }
+    → begun ≡ with_message (record { code = ACCESS_REQUEST; identifier = identifier; authenticator = auth; attributes = [] }) (zeros 16)
+    → put ≡ with_message (unsigned_request c a session identifier auth) (zeros 16)
+built c a session identifier auth begun put is start =
+    is ∙ ap (λ (p : Packet). record p { attributes = p.attributes ++ request_attributes c a session }) start
 
-on_ok : {T E : Type 0} (r : Result T E) (P : Type 0) → is_ok r ≡ true → OnOk r P → P
-on_ok (Ok x) P is p = p
-on_ok (Err e) P is p = cc
+awaits : (c : Config) (a : Ask) (session identifier : ℕ) (auth : List ℕ) (put : Packet) → put ≡ with_message (unsigned_request c a session identifier auth) (zeros 16) → AwaitsSigning put
+awaits c a session identifier auth put is = record {
+  first = is ∙ ap (λ (p : Packet). with_message (behind_first p) (zeros 16)) (sym is);
+  only = ap (λ (p : Packet). first_value MESSAGE_AUTHENTICATOR (behind_first p).attributes) is ∙ not-signed c a session;
+}
 
-pub sign-fits-requires : goal.sign-fits-requires
-sign-fits-requires c = ap (λ (p : Packet). first_value 80 p.attributes) c.put_attributes.ensures.attributes ∙ not-signed c.args.c.now c.args.a.now c.args.session
+pub sign-requires : goal.sign-requires
+sign-requires c =
+    awaits c.args.c.now c.args.a.now c.args.session c.args.id c.args.auth c.put_attributes.new.packet
+    (built c.args.c.now c.args.a.now c.args.session c.args.id c.args.auth c.restart.new.packet c.put_attributes.new.packet c.put_attributes.ensures.attributes c.restart.ensures.packet)
 
 pub returns : goal.returns
 returns c =
-    let old : Packet = c.put_attributes.new.packet in
-    let room : length (packet_text old) + 18 ≤ 4096 = omega (arith, sym (size-is old), c.put_attributes.ensures.size) in
     let secret : c.as_slice.result.now ≡ c.args.c.now.secret = c.as_slice.ensures.value ∙ ap (λ s. s.secret) c.c.view_is in
-    on_ok c.sign-fits.result (c.sign-fits.new.packet ≡ signed_by c.as_slice.result.now c.args.auth old) (c.sign-fits.ensures.room.1 room) c.sign-fits.ensures.value
-    ∙ ap (λ (s : List ℕ). signed_by s c.args.auth old) secret
-    ∙ ap (signed_by c.args.c.now.secret c.args.auth) c.put_attributes.ensures.attributes
+    let is = built c.args.c.now c.args.a.now c.args.session c.args.id c.args.auth c.restart.new.packet c.put_attributes.new.packet c.put_attributes.ensures.attributes c.restart.ensures.packet in
+    c.sign.ensures.packet
+    ∙ ap (λ (p : Packet). signed (behind_first p) c.args.auth c.as_slice.result.now) is
+    ∙ ap (signed (unsigned_request c.args.c.now c.args.a.now c.args.session c.args.id c.args.auth) c.args.auth) secret

@@ -3,6 +3,7 @@ use Rattle.std.proofs.lemmas.List.{take_all, take-append-le}
 use Rattle.std.specs.List.{AllByRecursion}
 use Rattle.aaa_defs.specs.Waits.{Pending}
 use Rattle.aaa_client.specs.declared.order.Entry.{Entry}
+use Rattle.aaa_defs.specs.declared.TheConstants.{NAMES}
 use Rattle.aaa_client.specs.Places.{Agrees, request_of}
 use Rattle.aaa_client.proofs.Places.{same-requests, agree-same}
 use Rattle.aaa_client.proofs.waits.Waits.copy_from.Goals as goal
@@ -14,7 +15,7 @@ module _ (c : goal.After-self-3-1) where
 
   there : held ≡ c.copy_places.new.places
   there =
-      let size : c.self.inside.places.len ≡ 256 = sym c.as_mut_slice.ensures.len ∙ ap length c.as_mut_slice.ensures.value ∙ c.self.invariant.all in
+      let size : c.self.inside.places.len ≡ NAMES = sym c.as_mut_slice.ensures.len ∙ ap length c.as_mut_slice.ensures.value ∙ c.self.invariant.all in
       take-append-le c.self.inside.places.len c.copy_places.new.places (drop (length c.copy_places.new.places) c.self.inside.places.items) (omega (arith, size, c.copy_places.ensures.length))
       ∙ take_all c.self.inside.places.len c.copy_places.new.places (omega (arith, size, c.copy_places.ensures.length))
 

@@ -8,10 +8,10 @@ use Rattle.aaa_client.proofs.waits.Waits.pending.Goals as goal
 pub returns-in-Some-clause-found : goal.returns-in-Some-clause-found
 returns-in-Some-clause-found c =
     let places : List Pending = c.self.inside.places.items in
-    let read : c.index.result.now ≡ place places c.in-Some.id =
-    c.index.ensures ∙ ap (λ k. get_or places k c.index.result.now) c.from.ensures ∙ get_or_default places c.in-Some.id c.index.result.now no_request (omega (arith, c.self.invariant.all)) in
+    let read : c.index.result.now ≡ place places c.in-Some.name =
+    c.index.ensures ∙ ap (λ k. get_or places k c.index.result.now) c.from.ensures ∙ get_or_default places c.in-Some.name c.index.result.now no_request (omega (arith, c.self.invariant.all, c.in-Some.ensures.small)) in
     ap (λ (p : Pending). Some p) read
-    ∙ sym (session-request places c.self.inside.order c.args.session c.in-Some.id c.self.invariant.agree c.in-Some.ensures.found)
+    ∙ sym (session-request places c.self.inside.order c.args.session c.in-Some.name c.self.invariant.agree c.in-Some.ensures.found)
     ∙ ap (pending_of c.args.session) c.self.view_is
 
 pub returns-in-None-clause-found : goal.returns-in-None-clause-found

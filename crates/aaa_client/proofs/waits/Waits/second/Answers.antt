@@ -31,10 +31,10 @@ returns-in_default-clause-waits c =
 gave-up : (c : goal.After-remove) → GaveUp ≡ aged (pending_of c.args.session c.args.self.now)
 gave-up c =
     let places : List Pending = c.self.inside.places.items in
-    let read : c.index.result.now ≡ place places c.in-Some.id =
-    c.index.ensures ∙ ap (λ k. get_or places k c.index.result.now) c.from-at.ensures ∙ get_or_default places c.in-Some.id c.index.result.now no_request (omega (arith, c.self.invariant.all)) in
+    let read : c.index.result.now ≡ place places c.in-Some.name =
+    c.index.ensures ∙ ap (λ k. get_or places k c.index.result.now) c.from-at.ensures ∙ get_or_default places c.in-Some.name c.index.result.now no_request (omega (arith, c.self.invariant.all, c.in-Some.ensures.small)) in
     c.in-GaveUp.ensures ∙ ap (λ n. aged_at (n + 1)) (c.age.ensures.value ∙ ap (λ (p : Pending). p.age) read)
-    ∙ ap aged (sym (session-request places c.self.inside.order c.args.session c.in-Some.id c.self.invariant.agree c.in-Some.ensures.found) ∙ ap (pending_of c.args.session) c.self.view_is)
+    ∙ ap aged (sym (session-request places c.self.inside.order c.args.session c.in-Some.name c.self.invariant.agree c.in-Some.ensures.found) ∙ ap (pending_of c.args.session) c.self.view_is)
 
 pub returns-in-GaveUp-clause-told : goal.returns-in-GaveUp-clause-told
 returns-in-GaveUp-clause-told c = gave-up c
@@ -61,41 +61,41 @@ not-gave-up Resend session w other = refl
 not-gave-up Quiet session w other = refl
 
 module _ (c : goal.After-self-1) where
-  read : c.index.result.now ≡ place c.self.inside.places.items c.in-Some.id
+  read : c.index.result.now ≡ place c.self.inside.places.items c.in-Some.name
   read =
       c.index.ensures ∙ ap (λ k. get_or c.self.inside.places.items k c.index.result.now) c.from-at.ensures
-      ∙ get_or_default c.self.inside.places.items c.in-Some.id c.index.result.now no_request (omega (arith, c.self.invariant.all))
+      ∙ get_or_default c.self.inside.places.items c.in-Some.name c.index.result.now no_request (omega (arith, c.self.invariant.all, c.in-Some.ensures.small))
 
-  lent : c.index_mut-request.result.now ≡ place c.self.inside.places.items c.in-Some.id
+  lent : c.index_mut-request.result.now ≡ place c.self.inside.places.items c.in-Some.name
   lent =
       c.index_mut-request.ensures.value ∙ ap (λ k. get_or c.self.inside.places.items k c.index_mut-request.result.now) c.from-at.ensures
-      ∙ get_or_default c.self.inside.places.items c.in-Some.id c.index_mut-request.result.now no_request (omega (arith, c.self.invariant.all))
+      ∙ get_or_default c.self.inside.places.items c.in-Some.name c.index_mut-request.result.now no_request (omega (arith, c.self.invariant.all, c.in-Some.ensures.small))
 
-  there : set c.self.inside.places.items c.from-at.result c.grow.new.self ≡ set c.self.inside.places.items c.in-Some.id (older (place c.self.inside.places.items c.in-Some.id))
+  there : set c.self.inside.places.items c.from-at.result c.grow.new.self ≡ set c.self.inside.places.items c.in-Some.name (older (place c.self.inside.places.items c.in-Some.name))
   there =
       ap (λ k. set c.self.inside.places.items k c.grow.new.self) c.from-at.ensures
-      ∙ ap (λ q. set c.self.inside.places.items c.in-Some.id q) (c.grow.ensures ∙ ap older lent)
+      ∙ ap (λ q. set c.self.inside.places.items c.in-Some.name q) (c.grow.ensures ∙ ap older lent)
 
-  within : c.in-Some.id < length c.self.inside.places.items
-  within = omega (arith, c.self.invariant.all)
+  within : c.in-Some.name < length c.self.inside.places.items
+  within = omega (arith, c.self.invariant.all, c.in-Some.ensures.small)
 
   told : c.aged_at.result ≡ aged (pending_of c.args.session c.args.self.now)
   told =
       c.aged_at.ensures ∙ ap (λ n. aged_at (n + 1)) (c.age.ensures.value ∙ ap (λ (p : Pending). p.age) read)
-      ∙ ap aged (sym (session-request c.self.inside.places.items c.self.inside.order c.args.session c.in-Some.id c.self.invariant.agree c.in-Some.ensures.found) ∙ ap (pending_of c.args.session) c.self.view_is)
+      ∙ ap aged (sym (session-request c.self.inside.places.items c.self.inside.order c.args.session c.in-Some.name c.self.invariant.agree c.in-Some.ensures.found) ∙ ap (pending_of c.args.session) c.self.view_is)
 
   grown : map (λ p. cond (eqb p.session c.args.session) (older p) p) (map (request_of c.self.inside.places.items) c.self.inside.order)
-      ≡ map (request_of (set c.self.inside.places.items c.in-Some.id (older (place c.self.inside.places.items c.in-Some.id)))) c.self.inside.order
+      ≡ map (request_of (set c.self.inside.places.items c.in-Some.name (older (place c.self.inside.places.items c.in-Some.name)))) c.self.inside.order
   grown =
-      set-older c.self.inside.places.items c.args.session c.in-Some.id c.self.inside.order within
-      (place-one c.self.inside.order c.args.session c.in-Some.id c.find.ensures.rising c.in-Some.ensures.found)
+      set-older c.self.inside.places.items c.args.session c.in-Some.name c.self.inside.order within
+      (place-one c.self.inside.order c.args.session c.in-Some.name c.find.ensures.rising c.in-Some.ensures.found)
       c.self.invariant.agree
-      (place-session c.self.inside.places.items c.self.inside.order c.args.session c.in-Some.id c.self.invariant.agree c.in-Some.ensures.found)
+      (place-session c.self.inside.places.items c.self.inside.order c.args.session c.in-Some.name c.self.invariant.agree c.in-Some.ensures.found)
 
 pub invariant_of-self-in_default-aged_at : goal.invariant_of-self-in_default-aged_at
 invariant_of-self-in_default-aged_at c = record {
   all = length-set c.self.inside.places.items c.from-at.result c.grow.new.self ∙ c.self.invariant.all;
-  agree = subst (λ (ps : List Pending). AllByRecursion (Agrees ps) c.self.inside.order) (sym (there c)) (agree-older c.self.inside.places.items c.in-Some.id c.self.inside.order (within c) c.self.invariant.agree);
+  agree = subst (λ (ps : List Pending). AllByRecursion (Agrees ps) c.self.inside.order) (sym (there c)) (agree-older c.self.inside.places.items c.in-Some.name c.self.inside.order (within c) c.self.invariant.agree);
 }
 
 pub returns-in_default-aged_at : goal.returns-in_default-aged_at

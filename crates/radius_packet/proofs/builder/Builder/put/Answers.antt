@@ -12,7 +12,7 @@ made c =
     let old = holds-from c.self.inside.octets.items c.args.self.now c.self.invariant c.self.view_is in
     let n = c.len.result + 2 + length c.args.value.now in
     let e : c.overwrite.new.out.items ≡ written_over (c.self.inside.octets.items ++ attribute_text (added c)) 2 (two_octets n) =
-    rw (c.overwrite.ensures, c.append-2.ensures, c.append.ensures) (ap (λ (xs : List ℕ). written_over xs 2 (two_octets n)) (append_assoc c.self.inside.octets.items (c.args.ty ∷ (length c.args.value.now + 2) ∷ []) c.args.value.now)) in
+    rw (c.overwrite.ensures, c.two_octets.ensures, c.append-2.ensures, c.append.ensures) (ap (λ (xs : List ℕ). written_over xs 2 (two_octets n)) (append_assoc c.self.inside.octets.items (c.args.ty ∷ (length c.args.value.now + 2) ∷ []) c.args.value.now)) in
     subst (λ octets. Holds octets (with_attribute c.args.self.now (added c))) (sym e) (holds-put c.self.inside.octets.items c.args.self.now (added c) n old (omega arith) (omega arith))
 
 pub invariant_of-self : goal.invariant_of-self
