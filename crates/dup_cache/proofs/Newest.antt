@@ -1,7 +1,7 @@
 -- The newest entry that answers, looked for from the end of a list.
 use Rattle.std.proofs.Common.{◌≡◌, ℕ, true, false, zero, suc, ◌+◌, ◌-◌, List, [], ◌∷◌, length, drop, refl, subst, Some, None, arith}
 use Rattle.std.specs.Prelude.{slice_get}
-use Rattle.dup_cache.specs.Kept.{Entry, is_repeat, newest_reply}
+use Rattle.kept_defs.specs.Kept.{Entry, is_repeat, newest_reply}
 use Rattle.dup_cache.proofs.Lists.{drop_at}
 
 module _ (sport : ℕ) (request : List ℕ) (now : ℕ) where

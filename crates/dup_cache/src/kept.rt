@@ -1,20 +1,19 @@
-ghost use Rattle.std.specs.Prelude.{◌≡◌, ◌≤◌, ◌<◌, [], ◌∷◌, ◌++◌, length, slice_get, Some, IfOk};
-ghost use Rattle.circular_buffer.specs.Buffer.{keep_last};
-ghost use Rattle.dup_cache.specs.Kept.{reply_in, newest_reply};
+ghost use Rattle.std.specs.Prelude.{◌≡◌, ◌≤◌, ◌<◌, [], length, slice_get, Some, IfOk};
+ghost use Rattle.kept_defs.specs.Kept.{newest_reply, with_newest};
+ghost use Rattle.dup_cache.specs.Reply.{reply_in};
 
 use crate::slot::Slot;
 use circular_buffer::HeapCircularBuffer;
+use kept_defs::MOST_KEPT;
 use std::alloc::{AllocError, Global};
 use std::marker::Model;
 
-// How many replies are kept.
-const MOST: usize = 64;
-
 /// The list of the last 64 replies kept for one client, oldest first: of each the moment in seconds,
-/// the source port of the request, the octets of the request and those of the reply.
+/// the source port of the request, the octets of the request and those of the reply. The memory of
+/// 64 entries is taken by [`Kept::open`], and no call changes how much of it there is.
 #[derive(Drop)]
 pub struct Kept {
-    // Room for 64 entries, 524,288 octets in all. Those that are in use are the last `len`.
+    // 64 entries, always: those that are in use are the last `len`, the others wait to be filled.
     slots: HeapCircularBuffer<Slot>,
     len: usize,
 }
@@ -22,7 +21,7 @@ pub struct Kept {
 impl Model for Kept {
     ghost use Rattle.std.specs.Prelude.{◌≡◌, ◌≤◌, List, length};
     ghost use Rattle.circular_buffer.specs.Buffer.{keep_last};
-    ghost use Rattle.dup_cache.specs.Kept.{Entry};
+    ghost use Rattle.kept_defs.specs.Kept.{Entry};
 
     ghost Value = { List Entry };
 
@@ -37,15 +36,15 @@ impl Kept {
     pub fn open(alloc: Global) -> Result<Kept, AllocError>
         ensures { IfOk result (λ kept. kept ≡ []) }
     {
-        let mut slots = HeapCircularBuffer::with_capacity(alloc, MOST)?;
-        for _n in 0..MOST {
+        let mut slots = HeapCircularBuffer::with_capacity(alloc, MOST_KEPT)?;
+        for _n in 0..MOST_KEPT {
             let slot = Slot::open(alloc)?;
             let _none = slots.push_back(slot);
         }
         Ok(Kept { slots, len: 0 })
     }
 
-    /// Makes this list equal to the other. Nothing is allocated.
+    /// Makes this list equal to the other.
     pub fn copy_from(&mut self, other: &Kept)
         ensures { self.new ≡ other.now }
     {
@@ -73,16 +72,16 @@ impl Kept {
 
     /// Appends the reply that was given to a request from a source port at the moment `now`, in seconds.
     /// Where there are 64, the oldest is dropped. The request and the reply must have at most 4,096
-    /// octets each. Nothing is allocated.
+    /// octets each.
     pub fn keep(&mut self, sport: u16, request: &[u8], reply: &[u8], now: u64)
         requires request { length request.now ≤ 4096 }
         requires reply { length reply.now ≤ 4096 }
-        ensures { self.new ≡ keep_last 64 (self.old ++ record { moment = now; sport = sport; request = request.now; reply = reply.now } ∷ []) }
+        ensures { self.new ≡ with_newest (record { moment = now; sport = sport; request = request.now; reply = reply.now }) self.old }
     {
         let mut slot = self.slots.pop_front().unwrap();
         slot.fill(sport, request, reply, now);
         let _none = self.slots.push_back(slot);
-        self.len = (self.len + 1).min(MOST);
+        self.len = (self.len + 1).min(MOST_KEPT);
     }
 
     fn clear(&mut self)
@@ -96,6 +95,6 @@ impl Kept {
         requires { n < length self.now }
         ensures { slice_get self.now n ≡ Some result.now }
     {
-        self.slots.get(MOST - self.len + n).unwrap()
+        self.slots.get(MOST_KEPT - self.len + n).unwrap()
     }
 }

@@ -1,41 +1,39 @@
-ghost use Rattle.std.specs.Prelude.{◌≡◌, ◌≤◌, [], length, IfOk, vec_capacity};
-ghost use Rattle.dup_cache.specs.Kept.{is_repeat};
+ghost use Rattle.std.specs.Prelude.{◌≡◌, ◌≤◌, [], length, IfOk};
+ghost use Rattle.kept_defs.specs.Kept.{is_repeat};
 
+use arrayvec::ArrayVec;
+use kept_defs::KEPT_SECONDS;
 use std::alloc::{AllocError, Global};
+use std::boxed::Box;
 use std::marker::Model;
 
-// The most octets of a request and of a reply (RFC 2865, section 3).
-const MOST_OCTETS: usize = 4096;
+// Room for a request or a reply: 4,096 octets, the most of a packet (RFC 2865, section 3). Its type
+// fixes how many there are: nothing can be reserved beside them.
+type Room = ArrayVec<u8, 4096>;
 
-// For how many seconds a reply answers a request that comes again.
-const SECONDS: u64 = 30;
-
-// Room for one request and its reply, of 4,096 octets each. It is taken once and filled anew.
+// A request and its reply. The two rooms are taken once, and filled anew.
 #[derive(Drop)]
 pub(crate) struct Slot {
     moment: u64,
     sport: u16,
-    request: Vec<u8>,
-    reply: Vec<u8>,
+    request: Box<Room>,
+    reply: Box<Room>,
 }
 
 impl Model for Slot {
-    ghost use Rattle.std.specs.Prelude.{◌≤◌, length, vec_capacity};
-    ghost use Rattle.dup_cache.specs.Kept.{Entry};
+    ghost use Rattle.kept_defs.specs.Kept.{Entry};
 
     ghost Value = { Entry };
 
-    ghost view = { λ s. record { moment = s.moment; sport = s.sport; request = s.request.items; reply = s.reply.items } };
-
-    ghost invariant = { λ s. (length s.request.items ≤ 4096) × (length s.reply.items ≤ 4096) × (4096 ≤ vec_capacity s.request) × (4096 ≤ vec_capacity s.reply) };
+    ghost view = { λ s. record { moment = s.moment; sport = s.sport; request = s.request.value.items; reply = s.reply.value.items } };
 }
 
 impl Slot {
     pub(crate) fn open(alloc: Global) -> Result<Slot, AllocError>
         ensures { IfOk result (λ slot. slot ≡ record { moment = 0; sport = 0; request = []; reply = [] }) }
     {
-        let request = Vec::with_capacity(alloc, MOST_OCTETS)?;
-        let reply = Vec::with_capacity(alloc, MOST_OCTETS)?;
+        let request = Box::new(alloc, Room::new())?;
+        let reply = Box::new(alloc, Room::new())?;
         Ok(Slot {
             moment: 0,
             sport: 0,
@@ -44,7 +42,6 @@ impl Slot {
         })
     }
 
-    // Nothing is allocated.
     pub(crate) fn fill(&mut self, sport: u16, request: &[u8], reply: &[u8], now: u64)
         requires request { length request.now ≤ 4096 }
         requires reply { length reply.now ≤ 4096 }
@@ -56,13 +53,14 @@ impl Slot {
         replace(&mut self.reply, reply);
     }
 
-    // The port, the moment and the length decide before the octets, of which the first that differs does.
+    // The port and the moment decide first, then the lengths, the first four octets, and the others in
+    // groups: the authenticator of a request stands in the first of them.
     pub(crate) fn is_repeat(&self, sport: u16, request: &[u8], now: u64) -> bool
         ensures { result ≡ is_repeat sport request.now now self.now }
     {
         self.sport == sport
             && self.moment <= now
-            && now - self.moment <= SECONDS
+            && now - self.moment <= KEPT_SECONDS
             && self.request.as_slice() == request
     }
 
@@ -93,12 +91,11 @@ impl Slot {
     }
 }
 
-// The octets in place of what was there, within the memory that was taken.
-fn replace(room: &mut Vec<u8>, octets: &[u8])
-    requires { length octets.now ≤ vec_capacity room.old }
-    ensures items { room.new.items ≡ octets.now }
-    ensures capacity { vec_capacity room.old ≤ vec_capacity room.new }
+// The octets in place of what was there.
+fn replace(room: &mut Room, octets: &[u8])
+    requires { length octets.now ≤ 4096 }
+    ensures { room.new.items ≡ octets.now }
 {
     room.clear();
-    let _fits = room.extend_from_slice(octets);
+    let _fits = room.try_extend_from_slice(octets);
 }

@@ -44,3 +44,14 @@ fn a_reply_is_given_for_30_seconds(rt: HostRuntime) {
         assert!(rt; kept.look(sport, &request(n), now) == reply);
     }
 }
+
+// A request and a reply of 4,096 octets each are kept whole.
+#[test]
+fn the_longest_packets_are_kept(rt: HostRuntime) {
+    let mut kept = Kept::open(rt.alloc()).expect(&rt, "there is memory");
+    let request = [40; 4096];
+    let reply = [41; 4096];
+    kept.keep(3799, &request, &reply, 7);
+    assert!(rt; kept.look(3799, &request, 7) == Some(reply.as_slice()));
+    assert!(rt; kept.look(3799, &request[..4095], 7).is_none());
+}

@@ -1,17 +1,19 @@
 -- The definitions, computed at requests whose answers are known. A request is taken as a packet that was read, and true by
 -- its authenticator: digests are computed by tests alone.
-use Rattle.std.proofs.Common.{◌≡◌, ℕ, true, false, List, [], ◌∷◌, refl, codes, Some, None}
+use Rattle.std.proofs.Common.{◌≡◌, ℕ, true, false, List, [], ◌∷◌, ◌++◌, length, refl, codes, Option, Some, None}
 use Rattle.std.specs.Str.{bytes_eq}
 use Rattle.radius_defs.specs.declared.Timeout.TheVariants.{End}
 use Rattle.radius_defs.specs.Packet.{Attribute, Packet, packet_text}
 use Rattle.radius_defs.specs.Parsed.{packet_of}
 use Rattle.radius_defs.specs.Digest.{zeros, request_auth}
-use Rattle.switch_event.specs.Config.{Config, Addr, empty}
-use Rattle.dynauth_defs.specs.declared.DynDrop.TheVariants.{Stranger, Stale}
+use Rattle.radius_defs.specs.Message.{message_state_of, with_message}
+use Rattle.radius_defs.specs.declared.Ma.TheVariants.{Right}
+use Rattle.switch_event.specs.Config.{Config, empty}
+use Rattle.wire_core.specs.declared.address.Addr.{Addr}
+use Rattle.dynauth_defs.specs.declared.DynDrop.TheVariants.{Stranger, BadCode, BadMessageAuth, Stale}
 use Rattle.dynauth_defs.specs.declared.Action.TheVariants.{Disconnect, Change}
 use Rattle.dynauth_defs.specs.Session.{Row, fits}
-use Rattle.aaa_defs.specs.Request.{session_text}
-use Rattle.dynauth_defs.specs.Judge.{Judged, Drop, Nak, Ack, judged}
+use Rattle.dynauth_defs.specs.Judge.{Judged, Drop, Again, Nak, Ack, judged}
 use Rattle.dynauth_defs.specs.Reply.{unsigned_reply}
 
 abbrev attribute : ℕ → List ℕ → Attribute
@@ -19,7 +21,7 @@ attribute kind value = record { kind = kind; value = value }
 
 -- the client 192.0.2.30, whose secret is dyn
 abbrev config : Config
-config = record empty { clients = record { ip = 192 ∷ 0 ∷ 2 ∷ 30 ∷ []; secret = codes "dyn" } ∷ [] }
+config = record empty { clients = record { ip = 192 ∷ 0 ∷ 2 ∷ 30 ∷ []; secret = codes "dyn" } ∷ []; require_ma = false }
 
 abbrev client : Addr
 client = record { ip = 192 ∷ 0 ∷ 2 ∷ 30 ∷ []; port = 4000 }
@@ -42,8 +44,8 @@ abbrev IsJudged : Packet → ℕ → List Row → Judged → Type 0
 IsJudged p now rows answer = (octets : List ℕ) → packet_of octets ≡ Some p → bytes_eq p.authenticator (request_auth (packet_text p) (codes "dyn")) ≡ true
     → judged config ([] ∷ []) now rows client octets ≡ answer
 
-digits_of_a_number : session_text 0xabc01 ≡ codes "000ABC01"
-digits_of_a_number = refl
+a_session_is_named_in_upper_case : fits (bob 0xabc01 170) (attribute 44 (codes "000ABC01")) ≡ true
+a_session_is_named_in_upper_case = refl
 
 lower_case_is_no_digit : fits (bob 0xabc01 170) (attribute 44 (codes "000abc01")) ≡ false
 lower_case_is_no_digit = refl
@@ -91,6 +93,20 @@ a_time_of_3_octets octets packet true_auth = rw (packet, true_auth) refl
 a_time_of_600_seconds : IsJudged (to_vlan_43 (0 ∷ 0 ∷ 2 ∷ 88 ∷ [])) 0 one (Ack (Change 1 (Some 43) (End 600)))
 a_time_of_600_seconds octets packet true_auth = rw (packet, true_auth) refl
 
+-- Termination-Action alone asks for no change, and what it says does not count then
+an_action_alone : IsJudged (request 43 (attribute 44 (codes "00000001") ∷ attribute 29 (0 ∷ 0 ∷ 0 ∷ 9 ∷ []) ∷ [])) 0 one (Nak 402)
+an_action_alone octets packet true_auth = rw (packet, true_auth) refl
+
+half_a_tunnel : IsJudged (request 43 (attribute 44 (codes "00000001") ∷ attribute 81 (codes "43") ∷ [])) 0 one (Nak 402)
+half_a_tunnel octets packet true_auth = rw (packet, true_auth) refl
+
+of_a_session_that_is_not_authorised : IsJudged (to_vlan_43 (0 ∷ 0 ∷ 2 ∷ 88 ∷ [])) 0 (record (bob 1 170) { authorised = false } ∷ []) (Nak 503)
+of_a_session_that_is_not_authorised octets packet true_auth = rw (packet, true_auth) refl
+
+-- a packet of another code
+of_another_code : IsJudged (request 41 (attribute 44 (codes "00000001") ∷ [])) 0 one (Drop BadCode)
+of_another_code octets packet true_auth = rw packet refl
+
 -- the window is 300 seconds
 abbrev at : ℕ → ℕ → Packet
 at high low = request 40 (attribute 44 (codes "00000001") ∷ attribute 55 (0 ∷ 0 ∷ high ∷ low ∷ []) ∷ [])
@@ -114,3 +130,36 @@ of_a_stranger octets = refl
 two_proxy_states : unsigned_reply (request 43 (attribute 33 (1 ∷ []) ∷ attribute 44 (codes "00000001") ∷ attribute 33 (2 ∷ []) ∷ [])) (Some 503)
     ≡ record { code = 45; identifier = 7; authenticator = zeros 16; attributes = attribute 101 (0 ∷ 0 ∷ 1 ∷ 247 ∷ []) ∷ attribute 33 (1 ∷ []) ∷ attribute 33 (2 ∷ []) ∷ [] }
 two_proxy_states = refl
+
+-- ---- where the settings want a Message-Authenticator
+
+none_is_there : (octets : List ℕ) → packet_of octets ≡ Some (request 40 (attribute 44 (codes "00000001") ∷ []))
+    → bytes_eq (zeros 16) (request_auth (packet_text (request 40 (attribute 44 (codes "00000001") ∷ []))) (codes "dyn")) ≡ true
+    → judged (record config { require_ma = true }) ([] ∷ []) 0 one client octets ≡ Drop BadMessageAuth
+none_is_there octets packet true_auth = rw (packet, true_auth) refl
+
+-- one that is right is taken, and comes again within 30 seconds
+abbrev with_80 : Packet
+with_80 = request 40 (attribute 80 (zeros 16) ∷ attribute 44 (codes "00000001") ∷ [])
+
+a_right_one : (octets : List ℕ) → packet_of octets ≡ Some with_80 → bytes_eq (zeros 16) (request_auth (packet_text with_80) (codes "dyn")) ≡ true
+    → message_state_of with_80 (zeros 16) (codes "dyn") ≡ Right → judged (record config { require_ma = true }) ([] ∷ []) 0 one client octets ≡ Ack (Disconnect 1)
+a_right_one octets packet true_auth right = rw (packet, true_auth, right) refl
+
+it_comes_again : (octets : List ℕ) → packet_of octets ≡ Some with_80 → bytes_eq (zeros 16) (request_auth (packet_text with_80) (codes "dyn")) ≡ true
+    → message_state_of with_80 (zeros 16) (codes "dyn") ≡ Right
+    → judged (record config { require_ma = true }) ((record { moment = 9; sport = 4000; request = packet_text with_80; reply = 41 ∷ [] } ∷ []) ∷ []) 39 [] client octets ≡ Again (41 ∷ [])
+it_comes_again octets packet true_auth right = rw (packet, true_auth, right) refl
+
+-- replies with a Message-Authenticator first, here of zeros: an ACK of 38 octets, a NAK of 44
+abbrev reply_text : Option ℕ → List ℕ
+reply_text cause = packet_text (with_message (unsigned_reply with_80 cause) (zeros 16))
+
+an_ack : reply_text None ≡ 0x29 ∷ 7 ∷ 0 ∷ 0x26 ∷ zeros 16 ++ 80 ∷ 18 ∷ zeros 16
+an_ack = refl
+
+a_nak : reply_text (Some 503) ≡ 0x2a ∷ 7 ∷ 0 ∷ 0x2c ∷ zeros 16 ++ 80 ∷ 18 ∷ zeros 16 ++ 0x65 ∷ 6 ∷ 0 ∷ 0 ∷ 1 ∷ 0xf7 ∷ []
+a_nak = refl
+
+the_request_has_48_octets : length (packet_text with_80) ≡ 48
+the_request_has_48_octets = refl

@@ -1,3 +1,4 @@
 pub mod Session
 pub mod Judge
 pub mod Reply
+pub mod Answered

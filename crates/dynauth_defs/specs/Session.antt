@@ -3,9 +3,9 @@ use Rattle.std.specs.Prelude.{ℕ, ◌==◌, Bool, true, false, if◌then◌else
 use Rattle.std.specs.List.{list_all}
 use Rattle.std.specs.Str.{bytes_eq}
 use Rattle.wire_defs.specs.Station.{station_of}
+use Rattle.radius_defs.specs.declared.attribute.TheConstants.{USER_NAME, NAS_PORT, CALLING_STATION_ID, ACCT_SESSION_ID}
 use Rattle.radius_defs.specs.Packet.{Attribute}
-use Rattle.radius_defs.specs.Attributes.{number_of}
-use Rattle.aaa_defs.specs.Request.{session_text}
+use Rattle.radius_defs.specs.Attributes.{number_of, session_text}
 
 -- what a request can know a session by: its number, its port, the address and, where it gave one, the identity of its host;
 -- and whether the host is authorised
@@ -26,13 +26,14 @@ abbrev pub is_number : ℕ → Option ℕ → Bool
 is_number n None = false
 is_number n (Some value) = value == n
 
--- User-Name, NAS-Port, Calling-Station-Id and Acct-Session-Id (as the server was told it) name sessions; another attribute names none, and so fits each
+-- User-Name, NAS-Port, Calling-Station-Id and Acct-Session-Id (as the server was told it) name sessions; another attribute names
+-- none, and so fits each
 abbrev pub fits : Row → Attribute → Bool
 fits row a =
-    if a.kind == 1 then is_octets a.value row.identity
-    else if a.kind == 5 then is_number row.port (number_of a.value)
-    else if a.kind == 31 then is_octets row.address (station_of a.value)
-    else if a.kind == 44 then bytes_eq a.value (session_text row.number)
+    if a.kind == USER_NAME then is_octets a.value row.identity
+    else if a.kind == NAS_PORT then is_number row.port (number_of a.value)
+    else if a.kind == CALLING_STATION_ID then is_octets row.address (station_of a.value)
+    else if a.kind == ACCT_SESSION_ID then bytes_eq a.value (session_text row.number)
     else true
 
 -- the attributes name a session where each of them fits it

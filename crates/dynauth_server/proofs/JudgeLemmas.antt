@@ -1,86 +1,65 @@
--- The list of lines, as the functions that judge together go through it.
-use Rattle.std.proofs.Common.{◌≡◌, ℕ, eqb, Bool, true, false, not, ◌||◌, List, [], ◌∷◌, Option, Some, None, Err, refl, sym, ap, ◌∙◌}
-use Rattle.std.specs.Prelude.{if◌then◌else◌}
+-- The list of lines at a datagram of a known client.
+use Rattle.std.proofs.Common.{◌≡◌, ℕ, true, false, length, List, Some, None, Err, refl, sym, ap, subst, ◌∙◌}
+use Rattle.std.specs.Prelude.{nat_lt}
+use Rattle.std.specs.Str.{bytes_eq}
 use Rattle.radius_defs.specs.declared.RadDrop.{RadDrop}
+use Rattle.radius_defs.specs.declared.attribute.TheConstants.{EVENT_TIMESTAMP}
 use Rattle.radius_defs.specs.Packet.{Packet, packet_text, IsPacket, PacketOf}
-use Rattle.radius_defs.specs.Parsed.{packet_of}
-use Rattle.radius_defs.specs.Attributes.{first_number, tunnel_of, timeout_of}
+use Rattle.radius_defs.specs.Digest.{zeros, request_auth}
+use Rattle.radius_defs.specs.Message.{message_state_of}
+use Rattle.radius_defs.specs.Attributes.{first_number}
 use Rattle.radius_defs.proofs.ParsedLemmas.{packet-of-some, packet-of-none}
-use Rattle.dup_cache.specs.Kept.{Entry, newest_reply}
-use Rattle.switch_event.specs.Config.{Config, Client, Nas, Addr}
-use Rattle.dynauth_defs.specs.declared.DynDrop.{DynDrop}
-use Rattle.dynauth_defs.specs.declared.DynDrop.TheVariants.{Stranger, Malformed, Stale}
-use Rattle.dynauth_defs.specs.declared.Action.TheVariants.{Disconnect, Change}
-use Rattle.dynauth_defs.specs.Session.{Row}
-use Rattle.dynauth_defs.specs.Judge.{Judged, Drop, Again, Nak, Ack, judged, client_of, again_or, is_far, asks_change, is_partial, has_bad_value, vlan_in, by_sessions}
-use Rattle.dynauth_server.specs.Stages.{distrust_of, drop_or, nak_or, done_to, answer_of}
+use Rattle.kept_defs.specs.Kept.{Entry, newest_reply}
+use Rattle.switch_event.specs.Config.{Config, Client}
+use Rattle.wire_core.specs.declared.address.Addr.{Addr}
+use Rattle.dynauth_defs.specs.declared.TheConstants.{MOST_REQUEST}
+use Rattle.dynauth_defs.specs.declared.DynDrop.TheVariants.{Malformed, BadAuthenticator, BadMessageAuth, Stale}
+use Rattle.dynauth_defs.specs.Session.{Row, matching}
+use Rattle.dynauth_defs.specs.Judge.{Judged, Drop, Again, judged, client_of, is_dynamic, is_untrue, is_far, first_line, lines, done}
+use Rattle.dynauth_defs.specs.Answered.{GetsReply, IsAnswered}
+use Rattle.dynauth_server.specs.Lines.{refusals}
+use Rattle.dynauth_defs.proofs.AnsweredLemmas.{answered_requests}
 
-drop-if : (b : Bool) (reason : DynDrop) (x : Option DynDrop) (rest : Judged) → drop_or (if b then Some reason else x) rest ≡ (if b then Drop reason else drop_or x rest)
-drop-if true reason x rest = refl
-drop-if false reason x rest = refl
+module _ (config : Config) (kept : List (List Entry)) (now : ℕ) (rows : List Row) (from : Addr) (octets : List ℕ) (clients : List Client) (client : Client) (replies : List Entry)
+    (clients-are : clients ≡ config.clients) (known : client_of from.ip clients kept ≡ Some (client, replies)) where
+  found : client_of from.ip config.clients kept ≡ Some (client, replies)
+  found = ap (λ (cs : List Client). client_of from.ip cs kept) (sym clients-are) ∙ known
 
-nak-if : (b : Bool) (cause : ℕ) (x : Option ℕ) (rest : Judged) → nak_or (if b then Some cause else x) rest ≡ (if b then Nak cause else nak_or x rest)
-nak-if true cause x rest = refl
-nak-if false cause x rest = refl
+  -- a packet is judged by the first of lines 3 to 19 that applies
+  pub judged-packet : (p : Packet) → IsPacket octets p
+      → judged config kept now rows from octets ≡ first_line (lines config client replies now rows from.port p) (done p (matching p.attributes rows))
+  judged-packet p packet = rw (found, packet-of-some octets p packet) refl
 
-by_sessions-same : (named : List Row) (none several : Judged) (one other : Row → Judged) → ((y : Row) → one y ≡ other y) → by_sessions named none several one ≡ by_sessions named none several other
-by_sessions-same [] none several one other same = refl
-by_sessions-same (y ∷ []) none several one other same = same y
-by_sessions-same (y ∷ z ∷ named) none several one other same = refl
+  pub judged-malformed : (e : RadDrop) → PacketOf octets (Err e) → Drop Malformed ≡ judged config kept now rows from octets
+  judged-malformed e broken = rw (found, packet-of-none octets e broken) refl
 
--- lines 16 to 19
-done-lines : (p : Packet) (y : Row) → done_to p y ≡
-    (if eqb p.code 40 then Ack (Disconnect y.number)
-    else if not (asks_change p.attributes) || is_partial (tunnel_of p.attributes) then Nak 402
-    else if has_bad_value p.attributes then Nak 407
-    else if not y.authorised then Nak 503
-    else Ack (Change y.number (vlan_in (tunnel_of p.attributes)) (timeout_of p.attributes)))
-done-lines p y = simp nak-if
+-- a packet of a client, by what is known of it
+module _ (config : Config) (client : Client) (replies : List Entry) (now : ℕ) (rows : List Row) (port : ℕ) (p : Packet)
+    (long : nat_lt MOST_REQUEST (length (packet_text p)) ≡ false) (dynamic : is_dynamic p.code ≡ true) where
+  abbrev whole : Judged
+  whole = first_line (lines config client replies now rows port p) (done p (matching p.attributes rows))
 
--- a request of a known client that is a packet
-pub judged-known : (config : Config) (kept : List (List Entry)) (now : ℕ) (rows : List Row) (from : Addr) (octets : List ℕ) (client : Client) (replies : List Entry) (p : Packet)
-    → client_of from.ip config.clients kept ≡ Some (client, replies) → packet_of octets ≡ Some p
-    → judged config kept now rows from octets ≡
-    drop_or (distrust_of p client.secret) (again_or (newest_reply from.port (packet_text p) now replies)
-    (if is_far now config.window (first_number 55 p.attributes) then Drop Stale else answer_of config.nas p rows))
-judged-known config kept now rows from octets client replies p known packet = rw (known, packet) (simp (drop-if, nak-if))
+  pub to-bad-auth : bytes_eq p.authenticator (request_auth (packet_text p) client.secret) ≡ false → Drop BadAuthenticator ≡ whole
+  to-bad-auth auth = rw (long, dynamic, auth) refl
 
--- the same, by what the code has in hand
-pub judged-after : (config : Config) (kept : List (List Entry)) (now : ℕ) (rows : List Row) (from : Addr) (octets : List ℕ)
-    (clients : List Client) (client : Client) (replies : List Entry) (p : Packet) (secret text : List ℕ) (window : ℕ) (nas : Nas)
-    → clients ≡ config.clients → client_of from.ip clients kept ≡ Some (client, replies) → IsPacket octets p
-    → secret ≡ client.secret → text ≡ packet_text p → window ≡ config.window → nas ≡ config.nas
-    → judged config kept now rows from octets ≡
-    drop_or (distrust_of p secret) (again_or (newest_reply from.port text now replies)
-    (if is_far now window (first_number 55 p.attributes) then Drop Stale else answer_of nas p rows))
-judged-after config kept now rows from octets clients client replies p secret text window nas clients-are known packet secret-is text-is window-is nas-is =
-    rw (secret-is, text-is, window-is, nas-is)
-    (judged-known config kept now rows from octets client replies p (ap (λ cs. client_of from.ip cs kept) (sym clients-are) ∙ known) (packet-of-some octets p packet))
+  module _ (auth : bytes_eq p.authenticator (request_auth (packet_text p) client.secret) ≡ true) where
+    pub to-bad-message : is_untrue config.require_ma (message_state_of p (zeros 16) client.secret) ≡ true → Drop BadMessageAuth ≡ whole
+    to-bad-message untrue = rw (long, dynamic, auth, untrue) refl
 
-pub to_malformed : (config : Config) (kept : List (List Entry)) (now : ℕ) (rows : List Row) (from : Addr) (octets : List ℕ)
-    (clients : List Client) (client : Client) (replies : List Entry) (e : RadDrop)
-    → clients ≡ config.clients → client_of from.ip clients kept ≡ Some (client, replies) → PacketOf octets (Err e)
-    → Drop Malformed ≡ judged config kept now rows from octets
-to_malformed config kept now rows from octets clients client replies e clients-are known broken =
-    let found : client_of from.ip config.clients kept ≡ Some (client, replies) = ap (λ cs. client_of from.ip cs kept) (sym clients-are) ∙ known in
-    rw (found, packet-of-none octets e broken) refl
+    module _ (message : is_untrue config.require_ma (message_state_of p (zeros 16) client.secret) ≡ false) where
+      pub to-again : (reply : List ℕ) → newest_reply port (packet_text p) now replies ≡ Some reply → Again reply ≡ whole
+      to-again reply kept = rw (long, dynamic, auth, message, kept) refl
 
-pub to_stranger : (config : Config) (kept : List (List Entry)) (now : ℕ) (rows : List Row) (from : Addr) (octets : List ℕ) (clients : List Client)
-    → clients ≡ config.clients → client_of from.ip clients kept ≡ None
-    → Drop Stranger ≡ judged config kept now rows from octets
-to_stranger config kept now rows from octets clients clients-are known =
-    let none : client_of from.ip config.clients kept ≡ None = ap (λ cs. client_of from.ip cs kept) (sym clients-are) ∙ known in
-    rw none refl
+      module _ (new : newest_reply port (packet_text p) now replies ≡ None) where
+        pub to-stale : is_far now config.window (first_number EVENT_TIMESTAMP p.attributes) ≡ true → Drop Stale ≡ whole
+        to-stale far = rw (long, dynamic, auth, message, new, far) refl
 
-module _ (whole : Judged) (reason : Option DynDrop) (reply : Option (List ℕ)) (stale : Bool) (rest : Judged) (lines : whole ≡ drop_or reason (again_or reply (if stale then Drop Stale else rest))) where
-  pub to_drop : (why : DynDrop) → reason ≡ Some why → Drop why ≡ whole
-  to_drop why e = sym (lines ∙ ap (λ r. drop_or r (again_or reply (if stale then Drop Stale else rest))) e)
+        -- lines 9 to 19 are left
+        pub to-refusals : is_far now config.window (first_number EVENT_TIMESTAMP p.attributes) ≡ false
+            → first_line (refusals config rows p) (done p (matching p.attributes rows)) ≡ whole
+        to-refusals near = rw (long, dynamic, auth, message, new, near) refl
 
-  pub to_again : (octets : List ℕ) → reason ≡ None → reply ≡ Some octets → Again octets ≡ whole
-  to_again octets e f = sym (lines ∙ rw (e, f) refl)
-
-  pub to_stale : reason ≡ None → reply ≡ None → stale ≡ true → Drop Stale ≡ whole
-  to_stale e f s = sym (lines ∙ rw (e, f, s) refl)
-
-  pub to_answer : reason ≡ None → reply ≡ None → stale ≡ false → rest ≡ whole
-  to_answer e f s = sym (lines ∙ rw (e, f, s) refl)
+-- what is judged so is a request that can be replied to
+pub request-of : (config : Config) (kept : List (List Entry)) (now : ℕ) (rows : List Row) (from : Addr) (octets : List ℕ) (j : Judged)
+    → j ≡ judged config kept now rows from octets → GetsReply j → IsAnswered config kept from octets
+request-of config kept now rows from octets j is gets = answered_requests config kept now rows from octets (subst GetsReply is gets)

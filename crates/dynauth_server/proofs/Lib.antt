@@ -2,4 +2,3 @@ pub mod SessionLemmas
 pub mod AnswerLemmas
 pub mod JudgeLemmas
 pub mod ReplyLemmas
-pub mod RollLemmas

@@ -1,11 +1,15 @@
 -- What the attributes of a reply take of its room.
-use Rattle.std.proofs.Common.{◌≡◌, ℕ, eqb, ◌+◌, ◌≤◌, true, false, List, [], ◌∷◌, ◌++◌, length, Some, None, refl, sym, ap, ◌∙◌, arith, inl, inr, append_assoc, append-nil}
+use Rattle.std.proofs.Common.{◌≡◌, ℕ, eqb, ◌+◌, ◌≤◌, true, false, List, [], ◌∷◌, ◌++◌, length, Some, None, refl, sym, ap, subst, ◌∙◌, arith, inl, inr, append_assoc, append-nil}
 use Rattle.std.specs.Prelude.{Option, Result, Ok, Err, is_ok, OnOk}
 use Rattle.std.proofs.lemmas.Bool.{cases_Bool, eqb-true}
 use Rattle.std.proofs.lemmas.List.{length-append}
 use Rattle.std.proofs.lemmas.List.Concat.{flat_map-append}
-use Rattle.radius_defs.specs.Packet.{Attribute, Packet, attribute_text, attributes_text, packet_text, first_value, those_of, Fits}
+use Rattle.radius_defs.specs.declared.attribute.TheConstants.{MESSAGE_AUTHENTICATOR, PROXY_STATE}
+use Rattle.radius_defs.specs.declared.limit.TheConstants.{MOST_OCTETS}
+use Rattle.radius_defs.specs.Packet.{Attribute, Packet, attribute_text, attributes_text, packet_text, size_of, first_value, those_of, Fits}
 use Rattle.radius_defs.proofs.SigningLemmas.{first-other, those-same, those-other}
+use Rattle.radius_defs.specs.Digest.{zeros}
+use Rattle.radius_defs.specs.Message.{with_message, behind_first, AwaitsSigning}
 use Rattle.dynauth_defs.specs.Reply.{error_cause, unsigned_reply}
 use Rattle.dynauth_server.specs.Replies.{with_all}
 
@@ -46,9 +50,9 @@ no_other kind other (a ∷ rest) apart =
       | inr not_same ↦ ap (first_value kind) (those-other other a rest not_same) ∙ no_other kind other rest apart
     ]
 
-pub no_message : (request : Packet) (cause : Option ℕ) → first_value 80 (unsigned_reply request cause).attributes ≡ None
-no_message request None = no_other 80 33 request.attributes refl
-no_message request (Some cause) = no_other 80 33 request.attributes refl
+no_message : (request : Packet) (cause : Option ℕ) → first_value MESSAGE_AUTHENTICATOR (unsigned_reply request cause).attributes ≡ None
+no_message request None = no_other MESSAGE_AUTHENTICATOR PROXY_STATE request.attributes refl
+no_message request (Some cause) = no_other MESSAGE_AUTHENTICATOR PROXY_STATE request.attributes refl
 
 pub cause-few : (cause : Option ℕ) → length (attributes_text (error_cause cause)) ≤ 6
 cause-few None = omega arith
@@ -56,56 +60,46 @@ cause-few (Some cause) = omega arith
 
 -- ---- a walk over the request's attributes, of which those of one type are put
 
-module _ (built start : Packet) (all from left : List Attribute) (a : Attribute) (so_far : with_all built (those_of 33 from) ≡ with_all start (those_of 33 all)) (next : from ≡ a ∷ left) where
-  pub room-left : eqb a.kind 33 ≡ true → length (packet_text start) + length (attributes_text all) ≤ 4096 → length (packet_text built) + 2 + length a.value ≤ 4096
+module _ (built start : Packet) (all from left : List Attribute) (a : Attribute) (so_far : with_all built (those_of PROXY_STATE from) ≡ with_all start (those_of PROXY_STATE all)) (next : from ≡ a ∷ left) where
+  pub room-left : eqb a.kind PROXY_STATE ≡ true → size_of start + length (attributes_text all) ≤ MOST_OCTETS → size_of built + 2 + length a.value ≤ MOST_OCTETS
+  unfolding size_of
   room-left same room =
-      let those : those_of 33 from ≡ a ∷ those_of 33 left = ap (those_of 33) next ∙ those-same 33 a left same in
+      let those : those_of PROXY_STATE from ≡ a ∷ those_of PROXY_STATE left = ap (those_of PROXY_STATE) next ∙ those-same PROXY_STATE a left same in
       omega (
         arith,
         ap (λ p. length (packet_text p)) so_far,
-        text-more built (those_of 33 from),
-        text-more start (those_of 33 all),
-        those-few 33 all,
+        text-more built (those_of PROXY_STATE from),
+        text-more start (those_of PROXY_STATE all),
+        those-few PROXY_STATE all,
         ap (λ those. length (attributes_text those)) those,
-        length-append a.value (attributes_text (those_of 33 left)),
+        length-append a.value (attributes_text (those_of PROXY_STATE left)),
         room,
       )
 
-  pub put-state : eqb a.kind 33 ≡ true → with_all (with_all built (record { kind = 33; value = a.value } ∷ [])) (those_of 33 left) ≡ with_all start (those_of 33 all)
+  pub put-state : eqb a.kind PROXY_STATE ≡ true → with_all (with_all built (record { kind = PROXY_STATE; value = a.value } ∷ [])) (those_of PROXY_STATE left) ≡ with_all start (those_of PROXY_STATE all)
   put-state same =
-      let kind : a.kind ≡ 33 = eqb-true a.kind 33 same in
-      let one : record { kind = 33; value = a.value } ≡ a = ap (λ (k : ℕ). record a { kind = k }) (sym kind) in
-      let those : those_of 33 from ≡ a ∷ those_of 33 left = ap (those_of 33) next ∙ those-same 33 a left same in
-      put-twice built (record { kind = 33; value = a.value } ∷ []) (those_of 33 left) ∙ ap (λ (b : Attribute). with_all built (b ∷ those_of 33 left)) one ∙ ap (with_all built) (sym those) ∙ so_far
+      let kind : a.kind ≡ PROXY_STATE = eqb-true a.kind PROXY_STATE same in
+      let one : record { kind = PROXY_STATE; value = a.value } ≡ a = ap (λ (k : ℕ). record a { kind = k }) (sym kind) in
+      let those : those_of PROXY_STATE from ≡ a ∷ those_of PROXY_STATE left = ap (those_of PROXY_STATE) next ∙ those-same PROXY_STATE a left same in
+      put-twice built (record { kind = PROXY_STATE; value = a.value } ∷ []) (those_of PROXY_STATE left) ∙ ap (λ (b : Attribute). with_all built (b ∷ those_of PROXY_STATE left)) one ∙ ap (with_all built) (sym those) ∙ so_far
 
-  pub pass-other : eqb a.kind 33 ≡ false → with_all built (those_of 33 left) ≡ with_all start (those_of 33 all)
-  pass-other other = ap (with_all built) (sym (ap (those_of 33) next ∙ those-other 33 a left other)) ∙ so_far
+  pub pass-other : eqb a.kind PROXY_STATE ≡ false → with_all built (those_of PROXY_STATE left) ≡ with_all start (those_of PROXY_STATE all)
+  pass-other other = ap (with_all built) (sym (ap (those_of PROXY_STATE) next ∙ those-other PROXY_STATE a left other)) ∙ so_far
 
-pub all-put : (built start : Packet) (all from : List Attribute) → with_all built (those_of 33 from) ≡ with_all start (those_of 33 all) → from ≡ [] → built ≡ with_all start (those_of 33 all)
+pub all-put : (built start : Packet) (all from : List Attribute) → with_all built (those_of PROXY_STATE from) ≡ with_all start (those_of PROXY_STATE all) → from ≡ [] → built ≡ with_all start (those_of PROXY_STATE all)
 all-put built start all from so_far none =
     let whole : with_all built [] ≡ built = ap (λ (attributes : List Attribute). record built { attributes = attributes }) (append-nil built.attributes) in
-    sym whole ∙ ap (λ (left : List Attribute). with_all built (those_of 33 left)) (sym none) ∙ so_far
-
--- a packet without attributes
-pub text-first : (built : Packet) (code identifier : ℕ) (auth : List ℕ) → built ≡ record { code = code; identifier = identifier; authenticator = auth; attributes = [] } → length auth ≡ 16
-    → length (packet_text built) ≡ 20
-text-first built code identifier auth is sixteen = omega (arith, ap (λ (p : Packet). length (packet_text p)) is, length-append auth [], sixteen)
-
--- there is room for a Message-Authenticator
-pub reply-few : (request : Packet) (cause : Option ℕ) → length request.authenticator ≡ 16 → length (packet_text request) ≤ 4000 → length (packet_text (unsigned_reply request cause)) ≤ 4006
-reply-few request cause sixteen size =
-    let text : attributes_text (error_cause cause ++ those_of 33 request.attributes) ≡ attributes_text (error_cause cause) ++ attributes_text (those_of 33 request.attributes) =
-    flat_map-append attribute_text (error_cause cause) (those_of 33 request.attributes) in
-    omega (
-      arith,
-      ap length text,
-      length-append (attributes_text (error_cause cause)) (attributes_text (those_of 33 request.attributes)),
-      length-append request.authenticator (attributes_text (error_cause cause ++ those_of 33 request.attributes)),
-      length-append request.authenticator (attributes_text request.attributes),
-      cause-few cause,
-      those-few 33 request.attributes,
-    )
+    sym whole ∙ ap (λ (left : List Attribute). with_all built (those_of PROXY_STATE left)) (sym none) ∙ so_far
 
 pub is-done : {T E P : Type 0} (r : Result T E) → is_ok r ≡ true → OnOk r P → P
 is-done (Ok x) ok p = p
 is-done (Err e) ok p = cc
+
+-- a reply awaits its signing
+pub awaits : (request : Packet) (cause : Option ℕ) (p : Packet) → p ≡ with_message (unsigned_reply request cause) (zeros 16) → AwaitsSigning p
+awaits request cause p is =
+    let reply = unsigned_reply request cause in
+    subst AwaitsSigning (sym is) (record { first = refl; only = no_message request cause })
+
+pub behind-signed : (request : Packet) (cause : Option ℕ) (p : Packet) → p ≡ with_message (unsigned_reply request cause) (zeros 16) → behind_first p ≡ unsigned_reply request cause
+behind-signed request cause p is = ap behind_first is

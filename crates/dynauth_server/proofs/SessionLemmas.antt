@@ -1,18 +1,17 @@
 -- A walk over the sessions, and what it has found of those that are named.
-use Rattle.std.proofs.Common.{◌≡◌, ℕ, zero, suc, ◌+◌, true, false, List, [], ◌∷◌, drop, Result, Ok, Err, Option, Some, None, refl, sym, ap, ◌∙◌, arith, add-one}
+use Rattle.std.proofs.Common.{◌≡◌, ℕ, zero, suc, ◌+◌, Bool, true, false, List, [], ◌∷◌, drop, Option, Some, None, refl, sym, ap, ◌∙◌, arith, add-one}
 use Rattle.std.specs.Prelude.{slice_get, is_some, ◌≤◌, length}
-use Rattle.std.specs.Option.{ok_or}
 use Rattle.std.proofs.lemmas.List.{drop_all}
 use Rattle.radius_defs.specs.Packet.{Attribute}
 use Rattle.dynauth_defs.specs.Session.{Row, matches, matching}
-use Rattle.dynauth_server.specs.Stages.{sole}
+use Rattle.dynauth_server.specs.Found.{found, first_of_them}
 use Rattle.dynauth_server.specs.declared.session.Found.{Found}
 
--- what is answered where one was found, or none, and these are named by what is left
-abbrev pub sole_after : Option Found → List Row → Result Found ℕ
-sole_after None named = sole named
-sole_after (Some found) [] = Ok found
-sole_after (Some found) (y ∷ ys) = Err 508
+-- what there is where one was found, or none, and these are named by what is left
+abbrev pub after : Option Found → List Row → Option Found × Bool
+after None named = first_of_them named
+after (Some one) [] = (Some one, false)
+after (Some one) (y ∷ ys) = (Some one, true)
 
 -- a session that stands at a place is the first of what is left from there on
 at_place : (rows : List Row) (n : ℕ) (y : Row) → slice_get rows n ≡ Some y → drop n rows ≡ y ∷ drop (suc n) rows
@@ -39,30 +38,43 @@ pub taken : (attributes : List Attribute) (rows : List Row) (n : ℕ) (y : Row) 
     → matching attributes (drop n rows) ≡ y ∷ matching attributes (drop (n + 1) rows)
 taken attributes rows n y there same = rw (at_place rows n y there, same, add-one n) refl
 
-several : (found : Option Found) (y : Row) (named : List Row) → is_some found ≡ true → sole_after found (y ∷ named) ≡ Err 508
+several : (one : Option Found) (y : Row) (named : List Row) → is_some one ≡ true → after one (y ∷ named) ≡ (one, true)
 several None y named some = cc
-several (Some found) y named some = refl
+several (Some one) y named some = refl
 
--- a second one is too many
-pub found_again : (attributes : List Attribute) (rows : List Row) (n : ℕ) (y : Row) (found : Option Found) → slice_get rows n ≡ Some y → matches attributes y ≡ true → is_some found ≡ true
-    → sole_after found (matching attributes (drop n rows)) ≡ sole (matching attributes rows) → Err 508 ≡ sole (matching attributes rows)
-found_again attributes rows n y found there same some so_far =
-    sym (ap (sole_after found) (taken attributes rows n y there same) ∙ several found y (matching attributes (drop (n + 1) rows)) some) ∙ so_far
+-- a second one is another
+pub found_again : (attributes : List Attribute) (rows : List Row) (n : ℕ) (y : Row) (one : Option Found) → slice_get rows n ≡ Some y → matches attributes y ≡ true → is_some one ≡ true
+    → after one (matching attributes (drop n rows)) ≡ first_of_them (matching attributes rows) → (one, true) ≡ first_of_them (matching attributes rows)
+found_again attributes rows n y one there same some so_far =
+    sym (ap (after one) (taken attributes rows n y there same) ∙ several one y (matching attributes (drop (n + 1) rows)) some) ∙ so_far
 
-first : (found : Option Found) (y : Row) (named : List Row) → is_some found ≡ false → sole_after (Some (record { number = y.number; authorised = y.authorised })) named ≡ sole_after found (y ∷ named)
-first (Some found) y named none = cc
+first : (one : Option Found) (y : Row) (named : List Row) → is_some one ≡ false → after (Some (found y)) named ≡ after one (y ∷ named)
+first (Some one) y named none = cc
 first None y [] none = refl
 first None y (z ∷ named) none = refl
 
 -- the first one is kept in mind
-pub found_first : (attributes : List Attribute) (rows : List Row) (n : ℕ) (y : Row) (found : Option Found) → slice_get rows n ≡ Some y → matches attributes y ≡ true → is_some found ≡ false
-    → sole_after (Some (record { number = y.number; authorised = y.authorised })) (matching attributes (drop (n + 1) rows)) ≡ sole_after found (matching attributes (drop n rows))
-found_first attributes rows n y found there same none =
-    first found y (matching attributes (drop (n + 1) rows)) none ∙ sym (ap (sole_after found) (taken attributes rows n y there same))
+pub found_first : (attributes : List Attribute) (rows : List Row) (n : ℕ) (y : Row) (one : Option Found) → slice_get rows n ≡ Some y → matches attributes y ≡ true → is_some one ≡ false
+    → after (Some (found y)) (matching attributes (drop (n + 1) rows)) ≡ after one (matching attributes (drop n rows))
+found_first attributes rows n y one there same none =
+    first one y (matching attributes (drop (n + 1) rows)) none ∙ sym (ap (after one) (taken attributes rows n y there same))
 
-pub at_end : (attributes : List Attribute) (rows : List Row) (n : ℕ) (found : Option Found) → length rows ≤ n → sole_after found (matching attributes (drop n rows)) ≡ ok_or found 503
-at_end attributes rows n found past = ap (λ (left : List Row). sole_after found (matching attributes left)) (drop_all n rows past) ∙ alone found
+pub at_end : (attributes : List Attribute) (rows : List Row) (n : ℕ) (one : Option Found) → length rows ≤ n → after one (matching attributes (drop n rows)) ≡ (one, false)
+at_end attributes rows n one past = ap (λ (left : List Row). after one (matching attributes left)) (drop_all n rows past) ∙ alone one
   where
-    alone : (found : Option Found) → sole_after found [] ≡ ok_or found 503
+    alone : (one : Option Found) → after one [] ≡ (one, false)
     alone None = refl
-    alone (Some found) = refl
+    alone (Some one) = refl
+
+-- where a first one is named, and no other, it is the one that is named
+pub one-named : (named : List Row) (first : Option Found) (others : Bool) (one : Found) → (first, others) ≡ first_of_them named → first ≡ Some one → others ≡ false
+    → (y : Row) × (named ≡ y ∷ []) × (one ≡ found y)
+one-named [] first others one is some alone =
+    let none : first ≡ None = ap (λ (f : Option Found × Bool). f.0) is in
+    cc
+one-named (y ∷ []) first others one is some alone =
+    let here : first ≡ Some (found y) = ap (λ (f : Option Found × Bool). f.0) is in
+    (y, refl, cc)
+one-named (y ∷ z ∷ named) first others one is some alone =
+    let more : others ≡ true = ap (λ (f : Option Found × Bool). f.1) is in
+    cc

@@ -1,4 +1,6 @@
 pub mod Roll
 pub mod Judged
-pub mod Stages
+pub mod Known
+pub mod Found
+pub mod Lines
 pub mod Replies

@@ -1,35 +1,21 @@
 //! Whether a CoA-Request can be followed, and what it changes (RFC 5176, sections 2.2 and 3.6; RFC
 //! 3580, sections 3.17, 3.19 and 3.31).
-ghost use Rattle.std.specs.Prelude.{◌≡◌};
+ghost use Rattle.std.specs.Prelude.{◌≡◌, ◌||◌, not};
 ghost use Rattle.radius_defs.specs.Attributes.{tunnel_of};
-ghost use Rattle.dynauth_defs.specs.Judge.{asks_change as asks_change_lem, has_bad_value as has_bad_value_lem, vlan_in as vlan_in_lem};
-ghost use Rattle.dynauth_server.specs.Stages.{change_fault, fault_in};
+ghost use Rattle.dynauth_defs.specs.Judge.{asks_change as asks_change_lem, is_partial, has_bad_value as has_bad_value_lem, vlan_in as vlan_in_lem};
 
-use crate::code::{
-    INVALID_ATTRIBUTE_VALUE, MISSING_ATTRIBUTE, SESSION_CONTEXT_NOT_FOUND, SESSION_TIMEOUT,
-    TERMINATION_ACTION, TUNNEL_MEDIUM_TYPE, TUNNEL_PRIVATE_GROUP_ID, TUNNEL_TYPE,
+use crate::attributes::has;
+use radius_attrs::{Tunnel, first_number, tunnel};
+use radius_defs::attribute::{
+    SESSION_TIMEOUT, TERMINATION_ACTION, TUNNEL_MEDIUM_TYPE, TUNNEL_PRIVATE_GROUP_ID, TUNNEL_TYPE,
 };
-use crate::form::has;
-use crate::trust::first_number;
-use radius_attrs::{Tunnel, tunnel};
 use radius_packet::Packet;
 
-// The Error-Cause of a CoA-Request that asks for no change, or for one that cannot be made, of a
-// session that is authorised or not.
-pub(crate) fn check_change(p: &Packet<'_>, authorised: bool) -> Result<(), u32>
-    ensures { fault_in result ≡ change_fault p.now authorised }
+// Whether no change is asked for, or half a tunnel.
+pub(crate) fn asks_no_change(p: &Packet<'_>) -> bool
+    ensures { result ≡ (not (asks_change_lem p.now.attributes) || is_partial (tunnel_of p.now.attributes)) }
 {
-    if !asks_change(p) || matches!(tunnel(p), Tunnel::Partial) {
-        return Err(MISSING_ATTRIBUTE);
-    }
-    if has_bad_value(p) {
-        return Err(INVALID_ATTRIBUTE_VALUE);
-    }
-    if authorised {
-        Ok(())
-    } else {
-        Err(SESSION_CONTEXT_NOT_FOUND)
-    }
+    !asks_change(p) || matches!(tunnel(p), Tunnel::Partial)
 }
 
 fn asks_change(p: &Packet<'_>) -> bool
@@ -42,7 +28,7 @@ fn asks_change(p: &Packet<'_>) -> bool
 }
 
 // Whether the time, the action at its end or the VLAN is none that can be followed.
-fn has_bad_value(p: &Packet<'_>) -> bool
+pub(crate) fn has_bad_value(p: &Packet<'_>) -> bool
     ensures { result ≡ has_bad_value_lem p.now.attributes }
 {
     let is_no_time = matches!(first_number(p, SESSION_TIMEOUT), None | Some(0));

@@ -1,23 +1,30 @@
 //! Judging a dynamic request.
-ghost use Rattle.std.specs.Prelude.{◌≡◌, ◌==◌, length};
-ghost use Rattle.std.specs.Option.{option_map};
-ghost use Rattle.std.specs.Str.{bytes_eq};
-ghost use Rattle.dynauth_defs.specs.Judge.{judged as judged_lem, client_of as client_of_lem, disconnect_request};
-ghost use Rattle.dynauth_server.specs.Stages.{answer_of, answered, known};
+ghost use Rattle.std.specs.Prelude.{◌≡◌, true, if◌then◌else◌, length, Ok, Err};
+ghost use Rattle.dynauth_defs.specs.Session.{matching};
+ghost use Rattle.dynauth_defs.specs.Judge.{judged as judged_lem, first_line, done, is_dynamic as is_dynamic_lem};
+ghost use Rattle.dynauth_defs.specs.Answered.{GetsReply, IsAnswered};
+ghost use Rattle.dynauth_server.specs.Lines.{refusals, answered};
 ghost use Rattle.dynauth_server.specs.Judged.{judged_in};
 
-use crate::change::{check_change, vlan};
-use crate::code::DISCONNECT_REQUEST;
-use crate::form::check_form;
+use crate::attributes::{has, has_forbidden, has_ill_formed, is_for_another, names_session};
+use crate::change::{asks_no_change, has_bad_value, vlan};
+use crate::client::client_of;
 use crate::judged::Judged;
 use crate::roll::Roll;
 use crate::session::named;
-use crate::trust::{distrust, is_stale};
+use crate::trust::{is_authentic, is_dynamic, is_stale, is_untrue};
 use dup_cache::Kept;
-use dynauth_defs::{Action, DynDrop};
+use dynauth_defs::{Action, DynDrop, MOST_REQUEST};
 use radius_attrs::timeout;
+use radius_defs::attribute::SERVICE_TYPE;
+use radius_defs::cause::{
+    INVALID_ATTRIBUTE_VALUE, MISSING_ATTRIBUTE, MULTIPLE_SESSION_SELECTION_UNSUPPORTED,
+    NAS_IDENTIFICATION_MISMATCH, SESSION_CONTEXT_NOT_FOUND, UNSUPPORTED_ATTRIBUTE,
+    UNSUPPORTED_SERVICE,
+};
+use radius_defs::code::DISCONNECT_REQUEST;
 use radius_packet::{Packet, parse};
-use switch_event::{Client, Config, Nas};
+use switch_event::Config;
 use wire_core::Addr;
 
 /// How a datagram is judged that came from an address and port of UDP to the port for dynamic
@@ -35,7 +42,8 @@ use wire_core::Addr;
 ///
 /// `kept` must have a list of kept replies for each client, in the order of the settings. The client
 /// of a request is the first that has the source address. A reply that is given again lies in that
-/// client's list. Nothing changes, and no memory is taken.
+/// client's list. What is refused or acknowledged is a request to which [`crate::reply`] can be
+/// written. Nothing changes, and no memory is taken.
 pub fn judge<'a, R: Roll>(
     b: &[u8],
     from: Addr,
@@ -45,7 +53,8 @@ pub fn judge<'a, R: Roll>(
     roll: &R,
 ) -> Judged<'a>
     requires { length kept.now ≡ length c.now.clients }
-    ensures { judged_in result ≡ judged_lem c.now kept.now now (R.rows roll.now) (record { ip = from.ip; port = from.port }) b.now }
+    ensures line { judged_in result ≡ judged_lem c.now kept.now now (R.rows roll.now) from b.now }
+    ensures request { GetsReply (judged_in result) → IsAnswered c.now kept.now from b.now }
 {
     let Some((client, replies)) = client_of(from.ip, c.clients.as_slice(), kept) else {
         return Judged::Drop(DynDrop::Stranger);
@@ -53,8 +62,17 @@ pub fn judge<'a, R: Roll>(
     let Ok(p) = parse(b) else {
         return Judged::Drop(DynDrop::Malformed);
     };
-    if let Some(reason) = distrust(&p, client.secret.as_slice()) {
-        return Judged::Drop(reason);
+    if p.text().len() > MOST_REQUEST {
+        return Judged::Drop(DynDrop::Oversize);
+    }
+    if !is_dynamic(p.code) {
+        return Judged::Drop(DynDrop::BadCode);
+    }
+    if !is_authentic(&p, client.secret.as_slice()) {
+        return Judged::Drop(DynDrop::BadAuthenticator);
+    }
+    if is_untrue(&p, client.secret.as_slice(), c.require_ma) {
+        return Judged::Drop(DynDrop::BadMessageAuth);
     }
     if let Some(reply) = replies.look(from.port, p.text(), now) {
         return Judged::Again(reply);
@@ -62,44 +80,33 @@ pub fn judge<'a, R: Roll>(
     if is_stale(&p, now, c.window) {
         return Judged::Drop(DynDrop::Stale);
     }
-    match answer(&p, &c.nas, roll) {
+    match answer(&p, c, roll) {
         Ok(action) => Judged::Ack(action),
         Err(cause) => Judged::Nak(cause),
     }
 }
 
-// The first client that has this address, and the replies that are kept for it.
-fn client_of<'a, 'c>(
-    ip: [u8; 4],
-    clients: &'c [Client],
-    kept: &'a [Kept],
-) -> Option<(&'c Client, &'a Kept)>
-    ensures { option_map known result ≡ client_of_lem ip clients.now kept.now }
-{
-    clients
-        .iter()
-        .zip(kept)
-        .find(|known| has_address(known.0, ip))
-}
-
-fn has_address(client: &Client, ip: [u8; 4]) -> bool
-    ensures { result ≡ bytes_eq client.now.ip ip }
-{
-    client.ip == ip
-}
-
 // What a request that is true, new and in time does, or the Error-Cause with which it is refused.
-fn answer<R: Roll>(p: &Packet<'_>, nas: &Nas, roll: &R) -> Result<Action, u32>
-    ensures { answered result ≡ answer_of nas.now p.now (R.rows roll.now) }
+fn answer<R: Roll>(p: &Packet<'_>, c: &Config, roll: &R) -> Result<Action, u32>
+    requires { is_dynamic_lem p.now.code ≡ true }
+    ensures { answered result ≡ first_line (refusals c.now (R.rows roll.now) p.now) (done p.now (matching p.now.attributes (R.rows roll.now))) }
 {
-    check_form(p, nas)?;
-    let session = named(p, roll)?;
-    if is_disconnect(p) {
+    refuse(is_for_another(p, &c.nas), NAS_IDENTIFICATION_MISMATCH)?;
+    refuse(has(p, SERVICE_TYPE), UNSUPPORTED_SERVICE)?;
+    refuse(has_forbidden(p), UNSUPPORTED_ATTRIBUTE)?;
+    refuse(has_ill_formed(p), INVALID_ATTRIBUTE_VALUE)?;
+    refuse(!names_session(p), MISSING_ATTRIBUTE)?;
+    let (first, has_others) = named(p, roll);
+    let session = first.ok_or(SESSION_CONTEXT_NOT_FOUND)?;
+    refuse(has_others, MULTIPLE_SESSION_SELECTION_UNSUPPORTED)?;
+    if p.code == DISCONNECT_REQUEST {
         return Ok(Action::Disconnect {
             number: session.number,
         });
     }
-    check_change(p, session.authorised)?;
+    refuse(asks_no_change(p), MISSING_ATTRIBUTE)?;
+    refuse(has_bad_value(p), INVALID_ATTRIBUTE_VALUE)?;
+    refuse(!session.authorised, SESSION_CONTEXT_NOT_FOUND)?;
     Ok(Action::Change {
         number: session.number,
         vlan: vlan(p),
@@ -107,8 +114,9 @@ fn answer<R: Roll>(p: &Packet<'_>, nas: &Nas, roll: &R) -> Result<Action, u32>
     })
 }
 
-fn is_disconnect(p: &Packet<'_>) -> bool
-    ensures { result ≡ (p.now.code == disconnect_request) }
+// The cause, where the line applies.
+fn refuse(applies: bool, cause: u32) -> Result<(), u32>
+    ensures { result ≡ (if applies then Err cause else Ok tt) }
 {
-    p.code == DISCONNECT_REQUEST
+    if applies { Err(cause) } else { Ok(()) }
 }

@@ -2,20 +2,19 @@
 //! reply. No call takes memory.
 #![tactic(auto)]
 
+mod attributes;
 mod change;
-mod code;
-mod form;
+mod client;
 mod judged;
 mod judging;
 mod naming;
 mod replying;
 mod roll;
 mod session;
-#[cfg(test)]
-mod tests;
 mod trust;
 
-pub use dynauth_defs::{Action, DynDrop};
+pub use client::{client_of, client_place};
+pub use dynauth_defs::{Action, DynDrop, MOST_REQUEST};
 pub use judged::Judged;
 pub use judging::judge;
 pub use replying::reply;

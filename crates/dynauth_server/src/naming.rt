@@ -1,16 +1,14 @@
 //! Whether the attributes of a request name a session (RFC 5176, section 3).
-ghost use Rattle.std.specs.Prelude.{◌≡◌, ◌<◌};
-ghost use Rattle.wire_defs.specs.Number.{four_octets};
-ghost use Rattle.wire_defs.specs.Station.{upper_digit as upper_digit_lem, station_of as station_of_lem};
+ghost use Rattle.std.specs.Prelude.{◌≡◌};
+ghost use Rattle.wire_defs.specs.Station.{station_of as station_of_lem};
 ghost use Rattle.radius_defs.specs.Attributes.{number_of};
 ghost use Rattle.radius_packet.specs.Views.{value_in};
-ghost use Rattle.aaa_defs.specs.Request.{session_text};
 ghost use Rattle.dynauth_defs.specs.Session.{fits as fits_lem, matches as matches_lem, is_octets, is_number};
 ghost use Rattle.dynauth_server.specs.Roll.{row_of};
 
-use crate::code::{ACCT_SESSION_ID, CALLING_STATION_ID, NAS_PORT, USER_NAME};
 use crate::roll::RollRow;
-use radius_attrs::number;
+use radius_attrs::{number, session_text};
+use radius_defs::attribute::{ACCT_SESSION_ID, CALLING_STATION_ID, NAS_PORT, USER_NAME};
 use radius_packet::Packet;
 use wire_core::{Mac, station_of};
 
@@ -29,7 +27,7 @@ fn fits(kind: u8, value: &[u8], row: &RollRow<'_>) -> bool
         USER_NAME => is_identity(value, row.identity),
         NAS_PORT => is_port(value, row.port),
         CALLING_STATION_ID => is_address(value, row.mac),
-        ACCT_SESSION_ID => value == session_digits(row.number).as_slice(),
+        ACCT_SESSION_ID => value == session_text(row.number).as_slice(),
         _ => true,
     }
 }
@@ -59,39 +57,4 @@ fn is_address(value: &[u8], mac: Mac) -> bool
         Some(address) => address.0 == mac.0,
         None => false,
     }
-}
-
-// The number of a session as eight hexadecimal digits, A to F in upper case.
-fn session_digits(number: u32) -> [u8; 8]
-    ensures { result ≡ session_text number }
-{
-    let [a, b, c, d] = big_endian(number);
-    [
-        upper_digit(a / 16),
-        upper_digit(a % 16),
-        upper_digit(b / 16),
-        upper_digit(b % 16),
-        upper_digit(c / 16),
-        upper_digit(c % 16),
-        upper_digit(d / 16),
-        upper_digit(d % 16),
-    ]
-}
-
-fn upper_digit(number: u8) -> u8
-    requires { number < 16 }
-    ensures { result ≡ upper_digit_lem number }
-{
-    if number < 10 {
-        b'0' + number
-    } else {
-        b'A' + (number - 10)
-    }
-}
-
-// The octets of a number, the most significant first.
-pub(crate) fn big_endian(n: u32) -> [u8; 4]
-    ensures { result ≡ four_octets n }
-{
-    n.to_be_bytes()
 }

@@ -1,9 +1,8 @@
-//! The session that a request names (RFC 5176, section 3).
+//! The sessions that a request names (RFC 5176, section 3).
 ghost use Rattle.std.specs.Prelude.{◌≡◌};
 ghost use Rattle.dynauth_defs.specs.Session.{matching};
-ghost use Rattle.dynauth_server.specs.Stages.{sole};
+ghost use Rattle.dynauth_server.specs.Found.{first_of_them};
 
-use crate::code::{MULTIPLE_SESSION_SELECTION_UNSUPPORTED, SESSION_CONTEXT_NOT_FOUND};
 use crate::naming::matches;
 use crate::roll::Roll;
 use radius_packet::Packet;
@@ -15,16 +14,16 @@ pub(crate) struct Found {
     pub(crate) authorised: bool,
 }
 
-// The one session that the request names, or the Error-Cause where it names none or several.
-pub(crate) fn named<R: Roll>(p: &Packet<'_>, roll: &R) -> Result<Found, u32>
-    ensures { result ≡ sole (matching p.now.attributes (R.rows roll.now)) }
+// The first session that the request names, and whether it names others.
+pub(crate) fn named<R: Roll>(p: &Packet<'_>, roll: &R) -> (Option<Found>, bool)
+    ensures { result ≡ first_of_them (matching p.now.attributes (R.rows roll.now)) }
 {
     let mut found = None;
     for n in 0..roll.len() {
         if let Some(row) = roll.row(n) {
             if matches(p, &row) {
                 if found.is_some() {
-                    return Err(MULTIPLE_SESSION_SELECTION_UNSUPPORTED);
+                    return (found, true);
                 }
                 found = Some(Found {
                     number: row.number,
@@ -33,5 +32,5 @@ pub(crate) fn named<R: Roll>(p: &Packet<'_>, roll: &R) -> Result<Found, u32>
             }
         }
     }
-    found.ok_or(SESSION_CONTEXT_NOT_FOUND)
+    (found, false)
 }

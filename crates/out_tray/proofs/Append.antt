@@ -1,12 +1,13 @@
 -- What an append does to the layout of a tray, and where an item is found.
-use Rattle.std.proofs.Common.{◌≡◌, ◌≢◌, ℕ, true, false, zero, suc, ◌+◌, ◌-◌, ◌*◌, ◌≤◌, ◌<◌, List, [], ◌∷◌, ◌++◌, length, take, drop, refl, sym, ◌∙◌, ap, subst, Some, Result, Ok, Err, is_ok, arith, length-append, length-take, length-drop}
-use Rattle.std.specs.Prelude.{slice_range, slice_get, slice_index_or, IsOk, if◌then◌else◌}
+use Rattle.std.proofs.Common.{◌≡◌, ◌≢◌, ℕ, true, false, zero, suc, ◌+◌, ◌-◌, ◌*◌, ◌≤◌, ◌<◌, List, [], ◌∷◌, ◌++◌, length, take, drop, refl, sym, ◌∙◌, ap, subst, Some, arith, length-append, length-take, length-drop}
+use Rattle.std.specs.Prelude.{slice_range, slice_get, slice_index_or}
 use Rattle.std.proofs.lemmas.List.{take-append-le, drop-append-le}
 use Rattle.std.proofs.lemmas.Option.{slice_get_read}
 use Rattle.out_tray.specs.declared.tray.Entry.{Entry}
-use Rattle.out_tray.specs.declared.sent.Way.{Way}
-use Rattle.out_tray.specs.declared.sent.Way.TheVariants as way
-use Rattle.out_tray.specs.Item.{Item, octets_of, sent_by}
+use Rattle.out_tray.specs.declared.way.Way.{Way}
+use Rattle.out_tray.specs.declared.way.Way.TheVariants as way
+use Rattle.switch_event.specs.Sent.{Sent, octets_of}
+use Rattle.out_tray.specs.Way.{sent_by}
 use Rattle.out_tray.specs.Tray.{Things, taken, room, spare}
 use Rattle.out_tray.specs.Layout.{items_from, start_at, Rises, Sound}
 
@@ -48,7 +49,7 @@ items_more start (x ∷ es) xs ys e h end =
 
 pub octets_sent : (w : Way) (xs : List ℕ) → octets_of (sent_by w xs) ≡ xs
 octets_sent (way.Frame port) xs = refl
-octets_sent way.Radius xs = refl
+octets_sent (way.Radius socket) xs = refl
 octets_sent (way.Reply to) xs = refl
 
 part_length : (xs : List ℕ) (i j : ℕ) → i ≤ j → j ≤ length xs → length (slice_range xs i j) + i ≡ j
@@ -89,11 +90,6 @@ start_after start (x ∷ es) (suc m) d h = start_after x.end es m d (omega (arit
 false_true : false ≡ true → ⊥
 false_true h = cc
 
--- what was appended where there was room
-pub appended : {X E : Type 0} (r : Result X E) (a b c : List ℕ) → IsOk r → c ≡ (if is_ok r then a else b) → c ≡ a
-appended (Ok x) a b c h e = e
-appended (Err x) a b c h e = absurd (false_true h)
-
 -- an item that the tray may take fits into its room
 pub room_for : (sessions own n : ℕ) (es : List Entry) (xs : List ℕ) (now : Things) → record { sessions = sessions; items = items_from 0 es xs } ≡ now →
     own ≡ room sessions → Rises 0 es (length xs) → n + 16 ≤ spare now → 16 * length es + length xs + n + 16 ≤ own
@@ -104,13 +100,13 @@ room_for sessions own n es xs now e h r m =
 
 pub sound_more : (sessions own places new_places space new_space : ℕ) (es new_es : List Entry) (xs ys new_xs : List ℕ) (e : Entry) →
     Sound sessions own es xs places space → new_es ≡ es ++ e ∷ [] → new_xs ≡ xs ++ ys → e.end ≡ length xs + length ys →
-    16 * length es + length xs + length ys + 16 ≤ own → new_places ≡ places → space ≤ new_space → Sound sessions own new_es new_xs new_places new_space
-sound_more sessions own places new_places space new_space es new_es xs ys new_xs e s p q end more a b = rw (p, q, a) (record {
+    16 * length es + length xs + length ys + 16 ≤ own → new_places ≡ places → new_space ≡ space → Sound sessions own new_es new_xs new_places new_space
+sound_more sessions own places new_places space new_space es new_es xs ys new_xs e s p q end more a b = rw (p, q, a, b) (record {
   rises = (let R : ℕ → Type 0 = λ n. Rises 0 (es ++ e ∷ []) n in subst R (end ∙ sym (length-append xs ys)) (rises_more 0 es (length xs) e s.rises (omega (arith, end))));
   counted = s.counted;
   fits = rw (length-append es (e ∷ []), length-append xs ys) (omega (arith, more));
   holds = s.holds;
-  has = omega (arith, s.has, b);
+  has = s.has;
 })
 
 pub view_more : (sessions : ℕ) (es new_es : List Entry) (xs ys new_xs : List ℕ) (e : Entry) (now : Things) → record { sessions = sessions; items = items_from 0 es xs } ≡ now →
@@ -141,7 +137,7 @@ read_at es from n e same below h =
     let P : List Entry → Type 0 = λ x. slice_get x n ≡ Some e in
     subst P same (slice_get_read from (length from) n e refl below h)
 
-taken_more : (items : List Item) (item : Item) → taken (items ++ item ∷ []) ≡ taken items + length (octets_of item) + 16
+taken_more : (items : List Sent) (item : Sent) → taken (items ++ item ∷ []) ≡ taken items + length (octets_of item) + 16
 taken_more [] item = omega arith
 taken_more (x ∷ items) item = omega (arith, taken_more items item)
 

@@ -1,3 +1,3 @@
-pub mod Item
+pub mod Way
 pub mod Tray
 pub mod Layout

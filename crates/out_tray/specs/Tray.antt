@@ -1,13 +1,13 @@
 -- A tray: the list of the things sent, and the number of sessions that it has room for.
 use Rattle.std.specs.Prelude.{ℕ, ◌+◌, ◌-◌, ◌*◌, List, [], ◌∷◌, length}
-use Rattle.out_tray.specs.Item.{Item, octets_of}
+use Rattle.switch_event.specs.Sent.{Sent, octets_of}
 
 pub record Things : Type 0 where
   pub sessions : ℕ
-  pub items : List Item
+  pub items : List Sent
 
 -- what the items take: their octets, and 16 beside each
-abbrev pub taken : List Item → ℕ
+abbrev pub taken : List Sent → ℕ
 taken [] = 0
 taken (item ∷ items) = 16 + length (octets_of item) + taken items
 

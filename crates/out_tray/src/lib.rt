@@ -2,8 +2,8 @@
 //! All memory is taken when a tray is opened.
 #![tactic(auto)]
 
-mod sent;
 mod tray;
+mod way;
 
-pub use sent::Sent;
+pub use switch_event::Sent;
 pub use tray::Tray;

@@ -1,11 +1,13 @@
-ghost use Rattle.std.specs.Prelude.{◌≡◌, ◌+◌, ◌<◌, ◌≤◌, [], ◌∷◌, ◌++◌, length, Some, slice_get, slice_range, IfOk, MatchOption};
-ghost use Rattle.out_tray.specs.Item.{item_of, octets_of, sent_by};
+ghost use Rattle.std.specs.Prelude.{◌≡◌, ◌+◌, ◌<◌, ◌≤◌, [], ◌∷◌, ◌++◌, length, Some, slice_get, slice_range, IfOk, MatchOption, vec_len, vec_capacity};
+ghost use Rattle.switch_event.specs.Sent.{sent_of, octets_of};
+ghost use Rattle.out_tray.specs.Way.{sent_by};
 ghost use Rattle.out_tray.specs.Tray.{spare};
 ghost use Rattle.out_tray.specs.Layout.{start_at};
 
-use crate::sent::{Sent, Way};
+use crate::way::Way;
 use std::alloc::{AllocError, Global};
 use std::marker::Model;
+use switch_event::Sent;
 
 // Where the octets of an item go, and where they end among the octets of all items.
 #[derive(Clone, Copy)]
@@ -15,7 +17,8 @@ struct Entry {
 }
 
 /// The list of the things sent, in order, with room beside it that contracts see: that of the
-/// number of sessions that it was opened for.
+/// number of sessions that it was opened for. The memory that [`Tray::open`] takes is exactly that
+/// room, and no call changes how much of it there is.
 #[derive(Drop)]
 pub struct Tray {
     sessions: usize,
@@ -77,16 +80,15 @@ impl Tray {
         self.octets.clear();
     }
 
-    /// Appends an item. Its octets and 16 must be at most [`Tray::spare`]. Nothing is allocated, and
-    /// what is there is not moved.
+    /// Appends an item. Its octets and 16 must be at most [`Tray::spare`].
     pub fn put(&mut self, s: Sent<'_>)
-        requires { length (octets_of (item_of s)) + 16 ≤ spare self.old }
-        ensures items { self.new ≡ record self.old { items = self.old.items ++ item_of s.entry ∷ [] } }
-        ensures room { spare self.new + length (octets_of (item_of s.entry)) + 16 ≡ spare self.old }
+        requires { length (octets_of (sent_of s)) + 16 ≤ spare self.old }
+        ensures items { self.new ≡ record self.old { items = self.old.items ++ sent_of s.entry ∷ [] } }
+        ensures room { spare self.new + length (octets_of (sent_of s.entry)) + 16 ≡ spare self.old }
     {
         match s {
             Sent::Frame { port, octets } => self.append(Way::Frame { port }, octets),
-            Sent::Radius { octets } => self.append(Way::Radius, octets),
+            Sent::Radius { socket, octets } => self.append(Way::Radius { socket }, octets),
             Sent::Reply { to, octets } => self.append(Way::Reply { to }, octets),
         }
     }
@@ -96,7 +98,7 @@ impl Tray {
         ensures items { self.new ≡ record self.old { items = self.old.items ++ sent_by way octets.now ∷ [] } }
         ensures room { spare self.new + length octets.now + 16 ≡ spare self.old }
     {
-        let _fits = self.octets.extend_from_slice(octets);
+        copy_behind(&mut self.octets, octets);
         let end = self.octets.len();
         self.entries.push_reserved(Entry { way, end });
     }
@@ -110,13 +112,25 @@ impl Tray {
 
     /// The item at a place, from 0. `None` comes exactly where the place is not below [`Tray::len`].
     pub fn item(&self, n: usize) -> Option<Sent<'_>>
-        ensures { MatchOption result (length self.now.items ≤ n) (λ sent. slice_get self.now.items n ≡ Some (item_of sent)) }
+        ensures { MatchOption result (length self.now.items ≤ n) (λ sent. slice_get self.now.items n ≡ Some (sent_of sent)) }
     {
         let Some(entry) = self.entries.get(n) else {
             return None;
         };
         let start = start_of(&self.entries, n);
         Some(sent(entry.way, part(&self.octets, start, entry.end)))
+    }
+}
+
+// Appends octets for which there is room. One at a time, since a push into reserved room promises
+// that no more is reserved.
+fn copy_behind(room: &mut Vec<u8>, octets: &[u8])
+    requires { vec_len room.old + length octets.now ≤ vec_capacity room.old }
+    ensures items { room.new.items ≡ room.old.items ++ octets.now }
+    ensures capacity { vec_capacity room.new ≡ vec_capacity room.old }
+{
+    for octet in octets {
+        room.push_reserved(*octet);
     }
 }
 
@@ -137,11 +151,11 @@ fn part(octets: &[u8], start: usize, end: usize) -> &[u8]
 }
 
 fn sent(way: Way, octets: &[u8]) -> Sent<'_>
-    ensures { item_of result ≡ sent_by way octets.now }
+    ensures { sent_of result ≡ sent_by way octets.now }
 {
     match way {
         Way::Frame { port } => Sent::Frame { port, octets },
-        Way::Radius => Sent::Radius { octets },
+        Way::Radius { socket } => Sent::Radius { socket, octets },
         Way::Reply { to } => Sent::Reply { to, octets },
     }
 }
@@ -172,7 +186,10 @@ mod tests {
             octets: &zeros[..49_968],
         });
         assert_eq!(rt; tray.spare(), 16);
-        tray.put(Sent::Radius { octets: &[] });
+        tray.put(Sent::Radius {
+            socket: 3,
+            octets: &[],
+        });
         assert_eq!(rt; tray.spare(), 0);
         assert_eq!(rt; tray.len(), 3);
         assert!(rt;
@@ -181,7 +198,9 @@ mod tests {
         assert!(rt;
             matches!(tray.item(1), Some(Sent::Reply { to: Addr { port: 3799, .. }, octets }) if octets.len() == 49_968)
         );
-        assert!(rt; matches!(tray.item(2), Some(Sent::Radius { octets }) if octets.is_empty()));
+        assert!(rt;
+            matches!(tray.item(2), Some(Sent::Radius { socket: 3, octets }) if octets.is_empty())
+        );
         assert!(rt; tray.item(3).is_none());
         tray.clear();
         assert_eq!(rt; tray.spare(), 100_000);

@@ -1,27 +1,24 @@
-use Rattle.std.proofs.Common.{◌≡◌, Some, None, refl, ap, sym, ◌∙◌, rules}
-use Rattle.radius_defs.specs.Attributes.{tunnel_of, timeout_of}
-use Rattle.dynauth_defs.specs.declared.Action.TheVariants.{Change}
-use Rattle.dynauth_defs.specs.Judge.{Nak, Ack, vlan_in}
-use Rattle.dynauth_server.specs.Stages.{fault_in, nak_or, change_fault, answer_of}
-use Rattle.dynauth_server.proofs.AnswerLemmas.{to_change}
+use Rattle.std.proofs.Common.{◌≡◌, ◌∙◌, sym, ap, arith}
+use Rattle.std.proofs.lemmas.Grind.{common_steps}
+use Rattle.dynauth_defs.specs.Session.{matching}
+use Rattle.dynauth_server.specs.declared.session.Found.{Found}
+use Rattle.dynauth_server.proofs.SessionLemmas.{one-named}
+use Rattle.dynauth_server.proofs.AnswerLemmas.{passed_on}
 use Rattle.dynauth_server.proofs.judging.answer.Goals as goal
 
-pub returns-in_err-check_change : goal.returns-in_err-check_change
-returns-in_err-check_change g c =
-    let p = c.args.p.now in
-    let found = c.in_ok-session.session in
-    let fault : change_fault p found.authorised ≡ Some c.in_err-check_change.field-0.0 = sym c.check_change.ensures ∙ ap fault_in c.in_err-check_change.was in
-    let all : answer_of c.args.nas.now p (g.R.Roll.rows c.args.roll.now) ≡ Nak c.in_err-check_change.field-0.0 =
-    to_change c.args.nas.now p (g.R.Roll.rows c.args.roll.now) found (sym c.check_form.ensures ∙ ap fault_in c.in_ok-check_form.was) (sym c.named.ensures ∙ c.in_ok-session.was) (sym c.is_disconnect.ensures ∙ c.if-is_disconnect.false)
-    ∙ ap (λ cause. nak_or cause (Ack (Change found.number (vlan_in (tunnel_of p.attributes)) (timeout_of p.attributes)))) fault in
-    rw all (search rules)
+pub returns-in_err-refuse-9 : goal.returns-in_err-refuse-9
+returns-in_err-refuse-9 g c =
+    let named = matching c.args.p.now.attributes (g.R.Roll.rows c.args.roll.now) in
+    let alone = passed_on c.named-first.result.1 508 c.in_ok-refuse-6.field-0 (sym c.refuse-6.ensures ∙ c.in_ok-refuse-6.was) in
+    let one = one-named named c.named-first.result.0 c.named-first.result.1 c.in_ok-session.session c.named-first.ensures c.in_ok-session.ensures.ok_part alone in
+    let same : c.in_ok-session.session.authorised ≡ one.0.authorised = ap (λ (s : Found). s.authorised) one.2 in
+    rw one.1 (grind (arith, common_steps, same))
 
 pub returns : goal.returns
 returns g c =
-    let p = c.args.p.now in
-    let found = c.in_ok-session.session in
-    let fault : change_fault p found.authorised ≡ None = sym c.check_change.ensures ∙ ap fault_in c.in_ok-check_change.was in
-    let all : answer_of c.args.nas.now p (g.R.Roll.rows c.args.roll.now) ≡ Ack (Change found.number (vlan_in (tunnel_of p.attributes)) (timeout_of p.attributes)) =
-    to_change c.args.nas.now p (g.R.Roll.rows c.args.roll.now) found (sym c.check_form.ensures ∙ ap fault_in c.in_ok-check_form.was) (sym c.named.ensures ∙ c.in_ok-session.was) (sym c.is_disconnect.ensures ∙ c.if-is_disconnect.false)
-    ∙ ap (λ cause. nak_or cause (Ack (Change found.number (vlan_in (tunnel_of p.attributes)) (timeout_of p.attributes)))) fault in
-    rw (all, c.vlan.ensures, c.timeout.ensures) refl
+    let named = matching c.args.p.now.attributes (g.R.Roll.rows c.args.roll.now) in
+    let alone = passed_on c.named-first.result.1 508 c.in_ok-refuse-6.field-0 (sym c.refuse-6.ensures ∙ c.in_ok-refuse-6.was) in
+    let one = one-named named c.named-first.result.0 c.named-first.result.1 c.in_ok-session.session c.named-first.ensures c.in_ok-session.ensures.ok_part alone in
+    let same : c.in_ok-session.session.authorised ≡ one.0.authorised = ap (λ (s : Found). s.authorised) one.2 in
+    let number : c.in_ok-session.session.number ≡ one.0.number = ap (λ (s : Found). s.number) one.2 in
+    rw one.1 (grind (arith, common_steps, same, number))

@@ -3,7 +3,7 @@ use Rattle.std.specs.Prelude.{slice_get}
 use Rattle.std.specs.Option.{option_map}
 use Rattle.dynauth_defs.specs.Session.{matching}
 use Rattle.dynauth_server.specs.Roll.{row_of}
-use Rattle.dynauth_server.proofs.SessionLemmas.{sole_after, passed, none_left, none_more, found_again, found_first, at_end}
+use Rattle.dynauth_server.proofs.SessionLemmas.{after, passed, none_left, none_more, found_again, found_first, at_end}
 use Rattle.dynauth_server.proofs.session.named.Goals as goal
 use Rattle.dynauth_server.proofs.session.named.Goals.{in-Some+then-matches+else-is_some, in-Some+else-matches, in_default}
 
@@ -20,22 +20,22 @@ loop-n-preserved g c =
     elim c.match-row.branch [
       | in-Some+then-matches+else-is_some w ↦
           let there : slice_get rows c.loop-n.n ≡ Some (row_of w.in-Some.row) = sym c.row.ensures ∙ ap (option_map row_of) w.in-Some.is in
-          ap (λ found. sole_after found (matching attributes (drop (c.loop-n.n + 1) rows))) w.found-is
+          ap (λ found. after found (matching attributes (drop (c.loop-n.n + 1) rows))) w.found-is
           ∙ found_first attributes rows c.loop-n.n (row_of w.in-Some.row) c.loop-n.found there (sym w.matches.ensures ∙ w.if-matches.true) (sym w.is_some.ensures ∙ w.if-is_some.false)
           ∙ c.loop-n.invariant
       | in-Some+else-matches w ↦
           let there : slice_get rows c.loop-n.n ≡ Some (row_of w.in-Some.row) = sym c.row.ensures ∙ ap (option_map row_of) w.in-Some.is in
-          ap (λ found. sole_after found (matching attributes (drop (c.loop-n.n + 1) rows))) w.found-is
-          ∙ ap (sole_after c.loop-n.found) (sym (passed attributes rows c.loop-n.n (row_of w.in-Some.row) there (sym w.matches.ensures ∙ w.if-matches.false)))
+          ap (λ found. after found (matching attributes (drop (c.loop-n.n + 1) rows))) w.found-is
+          ∙ ap (after c.loop-n.found) (sym (passed attributes rows c.loop-n.n (row_of w.in-Some.row) there (sym w.matches.ensures ∙ w.if-matches.false)))
           ∙ c.loop-n.invariant
       | in_default w ↦
           let none : slice_get rows c.loop-n.n ≡ None = sym c.row.ensures ∙ ap (option_map row_of) w.in_default.is in
-          ap (λ found. sole_after found (matching attributes (drop (c.loop-n.n + 1) rows))) w.found-is
-          ∙ ap (λ left. sole_after c.loop-n.found (matching attributes left)) (none_more rows c.loop-n.n none ∙ sym (none_left rows c.loop-n.n none))
+          ap (λ found. after found (matching attributes (drop (c.loop-n.n + 1) rows))) w.found-is
+          ∙ ap (λ left. after c.loop-n.found (matching attributes left)) (none_more rows c.loop-n.n none ∙ sym (none_left rows c.loop-n.n none))
           ∙ c.loop-n.invariant
     ]
 
 pub returns : goal.returns
 returns g c =
     let rows = g.R.Roll.rows c.args.roll.now in
-    c.ok_or.ensures.value ∙ sym (at_end c.args.p.now.attributes rows c.loop-n.n c.loop-n.found (omega (arith, c.len-n-end.ensures.count))) ∙ c.loop-n.invariant
+    sym (at_end c.args.p.now.attributes rows c.loop-n.n c.loop-n.found (omega (arith, c.len-n-end.ensures.count))) ∙ c.loop-n.invariant

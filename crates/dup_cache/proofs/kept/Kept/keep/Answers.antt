@@ -1,5 +1,5 @@
 use Rattle.std.proofs.Common.{refl}
-use Rattle.dup_cache.specs.Kept.{Entry}
+use Rattle.kept_defs.specs.Kept.{Entry}
 use Rattle.dup_cache.proofs.Lists.{kept_more}
 use Rattle.dup_cache.proofs.kept.Kept.keep.Goals as goal
 

@@ -1,5 +1,5 @@
 use Rattle.std.proofs.Common.{◌≡◌, ◌-◌, length, drop, None}
-use Rattle.dup_cache.specs.Kept.{newest_reply}
+use Rattle.kept_defs.specs.Kept.{newest_reply}
 use Rattle.dup_cache.proofs.kept.Kept.look.Given as goal
 
 -- the n newest entries are no answer

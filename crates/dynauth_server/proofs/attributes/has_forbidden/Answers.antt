@@ -1,0 +1,10 @@
+use Rattle.std.proofs.Common.{not, rules, tests}
+use Rattle.std.proofs.lemmas.Iterator.Consumers.{YieldsList-from_first}
+use Rattle.std.proofs.lemmas.Iterator.Search.{any_from_yields_List}
+use Rattle.radius_defs.specs.Packet.{Attribute}
+use Rattle.radius_defs.specs.Attributes.{is_allowed}
+use Rattle.radius_packet.specs.Views.{attribute}
+use Rattle.dynauth_server.proofs.attributes.has_forbidden.Goals as goal
+
+pub returns : goal.returns
+returns c = any_from_yields_List (λ (a : Attribute). not (is_allowed c.args.p.now.code a.kind)) c.any.new.self _ _ c.any.ensures.ran (YieldsList-from_first attribute (λ s. s) c.args.p.now.attributes c.attributes.ensures.same) (λ x b q k. search (rules, tests))
