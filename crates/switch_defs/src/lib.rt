@@ -1,47 +1,38 @@
 //! The sequential authenticator as definitions: the state of the switch, its turns and its
-//! decisions. They stand in specs/; here are the plain types that they speak of.
+//! decisions. They stand in specs/, with their laws; here are the plain types that they speak of.
 #![tactic(auto)]
 
-use switch_event::PortConf;
+ghost use Rattle.switch_defs.specs.History.{EndedForGood, NumberedOnce};
+ghost use Rattle.switch_defs.specs.Laws.{AnswersMaySettle, AnswersNameSessions, AsksOnce, DynamicsNameSessions, FramesMaySettle, HistoriesAreSound, NumbersFit, OpeningIsSound, RestsAgain, SecondsMaySettle, SessionsAreFew, SoundIsBetween, TurnsAreSound};
 
-/// A configured port as it stands.
-#[derive(Clone, Copy, Debug, PartialEq, Eq)]
-pub struct Port {
-    /// Its settings.
-    pub conf: PortConf,
-    /// Whether its link is up.
-    pub link: bool,
-}
+/// Each state that a history leads to is sound: the opening is, and each turn keeps it so.
+pub fn states_of_histories_are_sound()
+    ensures opening { OpeningIsSound }
+    ensures turns { TurnsAreSound }
+    ensures histories { HistoriesAreSound }
+    ensures sessions { SessionsAreFew }
+    ensures numbers { NumbersFit }
+{}
 
-/// Why a data frame is not forwarded, in the order in which it is looked for.
-#[derive(Clone, Copy, Debug, PartialEq, Eq)]
-pub enum Drop9 {
-    /// It has fewer than 14 octets.
-    Runt,
-    /// It has more than 1,518 octets.
-    Giant,
-    /// Its type is that of EAPOL.
-    Control,
-    /// Its destination is one of the addresses that no bridge forwards.
-    Reserved,
-    /// It is tagged already.
-    Tagged,
-    /// Its source is a group address.
-    GroupSource,
-    /// Its port is down, or none of the configured ones.
-    Down,
-    /// Its port is controlled so that no host is authorised.
-    Closed,
-    /// Its source is not authorised.
-    Unauthorised,
-}
+/// Each session that a turn settles may be settled: every other session is at rest, and so is this one afterwards. Where
+/// the server is asked, the session has no request that waits, and there is room for one more.
+pub fn sessions_may_be_settled()
+    ensures between { SoundIsBetween }
+    ensures frames { FramesMaySettle }
+    ensures answers { AnswersMaySettle }
+    ensures seconds { SecondsMaySettle }
+    ensures asks { AsksOnce }
+    ensures rests { RestsAgain }
+{}
 
-/// What is decided on a data frame.
-#[derive(Clone, Copy, Debug, PartialEq, Eq)]
-pub enum Decision {
-    /// It is forwarded, tagged with this VLAN, under the number of its source's session. The number is 0 on a port
-    /// where every host is authorised.
-    Forward { session: u32, vlan: u16 },
-    /// It is dropped.
-    Drop(Drop9),
-}
+/// An answer that is taken, and a dynamic request that is acknowledged, is of a session that there is.
+pub fn answers_are_of_sessions()
+    ensures answers { AnswersNameSessions }
+    ensures dynamics { DynamicsNameSessions }
+{}
+
+/// In no history does a session's number come twice, and one that was ended is authorised no more.
+pub fn numbers_are_used_once()
+    ensures once { NumberedOnce }
+    ensures ended { EndedForGood }
+{}

@@ -1,0 +1,9 @@
+mod Worked
+mod Packets
+mod Digests
+mod Ports
+mod Hosts
+mod Server
+mod Clients
+mod Guests
+mod Traces
