@@ -1,0 +1,11 @@
+//! Workers, which forward data frames by the published table. None takes a lock.
+#![tactic(auto)]
+
+mod tag;
+mod worker;
+
+pub use switch_event::Decided;
+pub use worker::Worker;
+
+#[cfg(test)]
+mod tests;
