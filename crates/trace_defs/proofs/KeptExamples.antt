@@ -1,6 +1,6 @@
 -- What is kept of a line, by computation with less room: it tests the definition.
 use Rattle.std.proofs.Common.{◌≡◌, ℕ, refl, List, [], ◌∷◌, ◌++◌, codes}
-use Rattle.trace_defs.specs.Kept.{kept_in, kept_of}
+use Rattle.trace_defs.proofs.Kept.{kept_in, kept_of}
 
 -- lines, with room for three octets and one that stands for the rest
 abbrev kept : List (List ℕ)

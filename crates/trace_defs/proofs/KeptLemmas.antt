@@ -7,10 +7,12 @@ use Rattle.std.proofs.Math.Seq.{take-append-le, drop-append-le, get_or_at, set_a
 use Rattle.std.proofs.lemmas.Bool.Decides.{nat_tests}
 use Rattle.wire_defs.specs.Text.{words}
 use Rattle.switch_event.specs.Config.{Config}
-use Rattle.trace_defs.specs.Reason.{too_long, wrong_octet}
-use Rattle.trace_defs.specs.Line.{Line, is_comment, is_printable, first_line, words_line, text_line, line_of}
+use Rattle.trace_defs.specs.declared.reason.TheConstants.{LONG}
+use Rattle.trace_defs.specs.Line.{Line, is_comment, head_of, words_line, stripped_line, line_of}
+use Rattle.trace_defs.proofs.Headed.{headed-long}
 use Rattle.trace_defs.specs.Line.Line.{Blank}
-use Rattle.trace_defs.specs.Kept.{return_before, stand_in, stood_for, kept_in, kept_of, stand_in_with}
+use Rattle.trace_defs.proofs.Kept.{return_before, stand_in, stood_for, kept_in, kept_of}
+use Rattle.trace_defs.specs.Alike.{stand_in_with}
 
 abbrev is_space : ℕ → Bool
 is_space octet = eqb octet 32
@@ -47,21 +49,20 @@ words-some (x ∷ xs) h = step (eqb x 32) (words-some xs) h
 
 -- what a text of more than 10,240 octets is
 abbrev long_line : (comment blank : Bool) → Result Line ℕ
-long_line comment blank = cond comment (Ok Blank) (cond blank (Ok Blank) (Err too_long))
+long_line comment blank = cond comment (Ok Blank) (cond blank (Ok Blank) (Err LONG))
 
 long_text : (config : Config) (given : ℕ) (begun : Bool) (text : List ℕ) → 10240 < length text
-    → text_line config given begun text ≡ long_line (is_comment text) (list_all is_space text)
+    → stripped_line config given begun text ≡ long_line (is_comment text) (list_all is_space text)
 long_text config given begun text h = ap (cond (is_comment text) (Ok Blank)) (plain (list_all is_space text) refl)
   where
     over : ltb 10240 (length text) ≡ true
     over = grind (arith, nat_tests)
 
-    plain : (b : Bool) → list_all is_space text ≡ b → words_line config given begun text (words text) ≡ cond b (Ok Blank) (Err too_long)
+    plain : (b : Bool) → list_all is_space text ≡ b → words_line config given begun text (words text) ≡ cond b (Ok Blank) (Err LONG)
     plain true e = ap (words_line config given begun text) (words-blank text e)
     plain false e =
         let w = words-some text e in
-        ap (words_line config given begun text) w.2
-        ∙ ap (λ b. cond b (Err too_long) (cond (list_all is_printable text) (first_line config given begun w.0 w.1) (Err wrong_octet))) over
+        ap (words_line config given begun text) w.2 ∙ headed-long config given begun text (head_of w.0 w.1) h
 
 -- a carriage return at the end
 strip-cons : (x y : ℕ) (rest : List ℕ) → strip_carriage_return (x ∷ y ∷ rest) ≡ x ∷ strip_carriage_return (y ∷ rest)
@@ -106,7 +107,7 @@ long_front config given begun [] y rest h = absurd (omega arith)
 long_front config given begun (x ∷ front) y rest h =
     let tail = strip_carriage_return (y ∷ rest) in
     let more : 10240 < length ((x ∷ front) ++ tail) = omega (arith, length-append (x ∷ front) tail) in
-    ap (text_line config given begun) (strip-append (x ∷ front) y rest) ∙ long_text config given begun ((x ∷ front) ++ tail) more
+    ap (stripped_line config given begun) (strip-append (x ∷ front) y rest) ∙ long_text config given begun ((x ∷ front) ++ tail) more
     ∙ ap (long_line (eqb x 35)) (list_all-append is_space (x ∷ front) tail)
 
 -- a line of so many octets and one more is kept whole

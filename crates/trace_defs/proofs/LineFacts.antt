@@ -1,5 +1,5 @@
 -- What is known of a line that was read.
-use Rattle.std.proofs.Common.{◌≡◌, ℕ, ◌<◌, ◌≤◌, Bool, true, false, cond, not, eqb, ltb, List, [], ◌∷◌, length, filter, codes, Option, Some, None, Result, Ok, Err, refl, subst, arith}
+use Rattle.std.proofs.Common.{◌≡◌, ℕ, ◌<◌, ◌≤◌, Bool, true, false, cond, not, ◌&&◌, is_some, eqb, ltb, List, [], ◌∷◌, length, filter, codes, Option, Some, None, Result, Ok, Err, refl, subst, arith}
 use Rattle.std.specs.List.{slice_split, list_all, onto_first}
 use Rattle.std.specs.Str.{bytes_eq}
 use Rattle.std.specs.Str.Lines.{strip_carriage_return}
@@ -10,12 +10,14 @@ use Rattle.wire_defs.specs.Number.{number_in}
 use Rattle.wire_defs.specs.Ethernet.{is_control}
 use Rattle.switch_event.specs.Config.{Config, has_port}
 use Rattle.switch_event.specs.Event.{Happening, Frame, Radius, Dynamic, Second, Link, SetControl}
-use Rattle.trace_defs.specs.declared.Keyword.{Keyword}
-use Rattle.trace_defs.specs.declared.Keyword.TheVariants.{Setting as IsSetting, Record as IsEntry, Sync as IsSync}
-use Rattle.trace_defs.specs.declared.RecordWord.{RecordWord}
-use Rattle.trace_defs.specs.declared.RecordWord.TheVariants as entry
-use Rattle.trace_defs.specs.Word.{keyword_of, lane_of, one_of, two_of, three_of, address_of, hex_in, control_of, link_of}
-use Rattle.trace_defs.specs.Line.{Record, Line, needs, alone, is_built, in_lane, event_line, data_line, frame_entry, frame_line, radius_line, dyn_line, port_event, link_line, control_line, record_line, placed_line, is_known, known_line, after_lane, laned_line, is_mark, first_line, words_line, is_comment, is_printable, text_line, line_of}
+use Rattle.trace_defs.specs.declared.keyword.Keyword.{Keyword}
+use Rattle.trace_defs.specs.declared.keyword.Keyword.TheVariants.{Setting as IsSetting, Record as IsEntry, Sync as IsSync}
+use Rattle.trace_defs.specs.declared.keyword.RecordWord.{RecordWord}
+use Rattle.trace_defs.specs.declared.keyword.RecordWord.TheVariants as entry
+use Rattle.trace_defs.specs.Word.{keyword_of, lane_of, two_of, three_of, socket_of, address_of, hex_in, control_of, link_of}
+use Rattle.trace_defs.specs.declared.reason.TheConstants.{LONG, OCTET, LANE, WORD, PLACE, COUNT, NUMBER, HEX, NAME, PORT, LANED, UNBUILT}
+use Rattle.trace_defs.specs.Refusal.{◌>>=◌, or_refused, unless}
+use Rattle.trace_defs.specs.Line.{Record, Line, Head, head_of, behind_mark, has_wrong_lane, is_unknown, is_misplaced, keyword_line, headed_line, alone, is_built, in_lane, event_line, frame_line, radius_line, dyn_line, port_event, link_line, control_line, record_line, is_mark, words_line, is_comment, is_printable, stripped_line, line_of}
 use Rattle.trace_defs.specs.Line.Record.{Control, Data}
 use Rattle.trace_defs.specs.Line.Line.{Blank, Begin, Sync, Setting, Entry}
 use Rattle.trace_defs.proofs.PlainWords.{is_glyph}
@@ -30,9 +32,13 @@ Gives P (Err why) = Unit {0}
 pub Gives-at : (P : Line → Type 0) (r : Result Line ℕ) (line : Line) → Gives P r → r ≡ Ok line → P line
 Gives-at P r line h e = subst (Gives P) e h
 
-pub Gives-needs : (P : Line → Type 0) {A : Type 0} (why : ℕ) (o : Option A) (f : A → Result Line ℕ) → ((x : A) → o ≡ Some x → Gives P (f x)) → Gives P (needs why o f)
-Gives-needs P why None f h = tt
-Gives-needs P why (Some x) f h = h x refl
+pub Gives-some : (P : Line → Type 0) {A : Type 0} (o : Option A) (why : ℕ) (f : A → Result Line ℕ) → ((x : A) → o ≡ Some x → Gives P (f x)) → Gives P (or_refused o why >>= f)
+Gives-some P None why f h = tt
+Gives-some P (Some x) why f h = h x refl
+
+pub Gives-unless : (P : Line → Type 0) (b : Bool) (why : ℕ) (more : List (Bool × ℕ)) (read : Result Line ℕ) → (b ≡ false → Gives P (unless more read)) → Gives P (unless ((b, why) ∷ more) read)
+Gives-unless P true why more read h = tt
+Gives-unless P false why more read h = h refl
 
 pub Gives-alone : (P : Line → Type 0) (r : Result Line ℕ) (rest : List (List ℕ)) → Gives P r → Gives P (alone r rest)
 Gives-alone P r [] h = h
@@ -104,38 +110,53 @@ lane_of-some word lane h = chosen (bytes_eq word (codes "@1")) (bytes_eq word (c
     chosen false false true e = at 3 (omega arith) (omega arith) e
     chosen false false false e = absurd (cc)
 
+lane_of-lane : (word : List ℕ) → IsLane (lane_of word)
+lane_of-lane word = step (lane_of word) refl
+  where
+    step : (lane : Option ℕ) → lane_of word ≡ lane → IsLane lane
+    step None e = record { low = omega arith; high = omega arith }
+    step (Some lane) e = lane_of-some word lane e
+
+-- what is known of the head of a line
+record IsHead (head : Head) : Type 0 where
+  lane : IsLane head.lane
+  args : ArePlain head.args
+
+head_of-head : (word : List ℕ) (rest : List (List ℕ)) → ArePlain rest → IsHead (head_of word rest)
+head_of-head word rest hs =
+    cond_both (is_mark word) (behind_mark (lane_of word) rest) (record { marked = false; lane = None; keyword = keyword_of word; args = rest }) IsHead
+    (λ e. behind rest hs) (λ e. record { lane = record { low = omega arith; high = omega arith }; args = hs })
+  where
+    behind : (rest : List (List ℕ)) → ArePlain rest → IsHead (behind_mark (lane_of word) rest)
+    behind [] hs = record { lane = lane_of-lane word; args = tt }
+    behind (next ∷ args) hs = record { lane = lane_of-lane word; args = hs.1 }
+
 -- what every line is known to say that its keyword and its words are known to say
 pub line_of-gives : (P : Line → Type 0) (config : Config) (given : ℕ) (begun : Bool) (line : List ℕ) → P Blank
-    → ((lane : Option ℕ) (keyword : Keyword) (args : List (List ℕ)) → IsLane lane → ArePlain args → Gives P (placed_line config given begun lane keyword args))
+    → ((lane : Option ℕ) (keyword : Option Keyword) (args : List (List ℕ)) → IsLane lane → ArePlain args → is_misplaced begun keyword ≡ false → Gives P (keyword_line config given lane keyword args))
     → Gives P (line_of config given begun line)
 line_of-gives P config given begun line blank each = of_text (strip_carriage_return line)
   where
-    known : (lane : Option ℕ) (keyword : Keyword) (args : List (List ℕ)) → IsLane lane → ArePlain args → Gives P (known_line config given begun lane keyword args)
-    known lane keyword args l hs = Gives-if P (is_known keyword args) (placed_line config given begun lane keyword args) (Err 4) (λ e. each lane keyword args l hs) (λ e. tt)
-
-    after : (lane : ℕ) (o : Option Keyword) (args : List (List ℕ)) → IsLane (Some lane) → ArePlain args → Gives P (after_lane config given begun lane o args)
-    after lane None args l hs = tt
-    after lane (Some (IsEntry word)) args l hs = known (Some lane) (IsEntry word) args l hs
-    after lane (Some IsSync) args l hs = tt
-    after lane (Some (IsSetting word)) args l hs = tt
-
-    laned : (lane : ℕ) (args : List (List ℕ)) → IsLane (Some lane) → ArePlain args → Gives P (laned_line config given begun lane args)
-    laned lane [] l hs = tt
-    laned lane (word ∷ args) l hs = after lane (keyword_of word) args l hs.1
-
-    first : (word : List ℕ) (args : List (List ℕ)) → ArePlain args → Gives P (first_line config given begun word args)
-    first word args hs =
-        Gives-if P (is_mark word) (needs 3 (lane_of word) (λ lane. laned_line config given begun lane args)) (needs 4 (keyword_of word) (λ keyword. known_line config given begun None keyword args))
-        (λ e. Gives-needs P 3 (lane_of word) (λ lane. laned_line config given begun lane args) (λ lane is. laned lane args (lane_of-some word lane is) hs))
-        (λ e. Gives-needs P 4 (keyword_of word) (λ keyword. known_line config given begun None keyword args) (λ keyword is. known None keyword args (record { low = omega arith; high = omega arith }) hs))
+    of_head : (text : List ℕ) (head : Head) → (list_all is_printable text ≡ true → IsHead head) → Gives P (headed_line config given begun text head)
+    of_head text head hs =
+        let line = keyword_line config given head.lane head.keyword head.args in
+        let place = (is_misplaced begun head.keyword, PLACE) ∷ [] in
+        let word = (is_unknown head.keyword head.args, WORD) ∷ place in
+        let lane = (has_wrong_lane head, LANE) ∷ word in
+        let octet = (not (list_all is_printable text), OCTET) ∷ lane in
+        Gives-unless P (ltb 10240 (length text)) LONG octet line (λ short.
+        Gives-unless P (not (list_all is_printable text)) OCTET lane line (λ printed.
+        Gives-unless P (has_wrong_lane head) LANE word line (λ laned.
+        Gives-unless P (is_unknown head.keyword head.args) WORD place line (λ known.
+        Gives-unless P (is_misplaced begun head.keyword) PLACE [] line (λ placed.
+        let h = hs (not-false (list_all is_printable text) printed) in
+        each head.lane head.keyword head.args h.lane h.args placed)))))
 
     of_words : (text : List ℕ) (ws : List (List ℕ)) → (list_all is_printable text ≡ true → ArePlain ws) → Gives P (words_line config given begun text ws)
     of_words text [] hs = blank
-    of_words text (word ∷ args) hs =
-        Gives-if P (ltb 10240 (length text)) (Err 1) (cond (list_all is_printable text) (first_line config given begun word args) (Err 2)) (λ e. tt)
-        (λ e. Gives-if P (list_all is_printable text) (first_line config given begun word args) (Err 2) (λ printed. first word args (hs printed).1) (λ e. tt))
+    of_words text (word ∷ rest) hs = of_head text (head_of word rest) (λ printed. head_of-head word rest (hs printed).1)
 
-    of_text : (text : List ℕ) → Gives P (text_line config given begun text)
+    of_text : (text : List ℕ) → Gives P (stripped_line config given begun text)
     of_text text = Gives-if P (is_comment text) (Ok Blank) (words_line config given begun text (words text)) (λ e. blank) (λ e. of_words text (words text) (words-plain text))
 
 -- ---- records
@@ -148,7 +169,7 @@ pub record IsPort (config : Config) (port : ℕ) : Type 0 where
 
 abbrev pub IsEvent : Config → Happening → Type 0
 IsEvent config (Frame port octets) = IsPort config port × IsSized 0 2000 octets × (is_control octets ≡ true)
-IsEvent config (Radius octets) = IsSized 0 5000 octets
+IsEvent config (Radius socket octets) = (socket ≤ 4) × IsSized 0 5000 octets
 IsEvent config (Dynamic from octets) = IsAddress from.ip × (from.port ≤ 65535) × IsSized 0 5000 octets
 IsEvent config Second = Unit {0}
 IsEvent config (Link port up) = IsPort config port
@@ -168,67 +189,79 @@ IsAfter config (Setting new given) = ⊥
 IsAfter config (Entry r) = IsRecord config r
 
 event_says : (config : Config) (lane : Option ℕ) (event : Happening) → IsLane lane → IsEvent config event → Gives (IsAfter config) (event_line lane event)
-event_says config lane event l h = Gives-if (IsAfter config) (is_built event) (Ok (Entry (Control (in_lane lane) event))) (Err 14) (λ built. (l.low, l.high, h, built)) (λ e. tt)
+event_says config lane event l h =
+    Gives-unless (IsAfter config) (not (is_built event)) UNBUILT [] (Ok (Entry (Control (in_lane lane) event))) (λ built. (l.low, l.high, h, not-false (is_built event) built))
 
-data_says : (config : Config) (lane : Option ℕ) (port : ℕ) (octets : List ℕ) → IsPort config port → IsSized 0 2000 octets → is_control octets ≡ false → Gives (IsAfter config) (data_line lane port octets)
-data_says config None port octets p h e = (p, h, e)
-data_says config (Some lane) port octets p h e = tt
+module _ (config : Config) (lane : Option ℕ) (l : IsLane lane) where
+  frame_says : (args : List (List ℕ)) → Gives (IsAfter config) (frame_line config lane args)
+  frame_says args =
+      Gives-some (IsAfter config) (two_of args) COUNT _ (λ word is.
+      Gives-some (IsAfter config) (number_in 1 60 word.0) NUMBER _ (λ port numbered.
+      Gives-some (IsAfter config) (hex_in 0 2000 word.1) HEX _ (λ octets written.
+      framed port octets (number_in-some 1 60 word.0 port numbered).0 (number_in-some 1 60 word.0 port numbered).1 (hex_in-some 0 2000 word.1 octets written))))
+    where
+      framed : (port : ℕ) (octets : List ℕ) → 1 ≤ port → port ≤ 60 → IsSized 0 2000 octets
+          → Gives (IsAfter config) (unless ((not (has_port port config), PORT) ∷ (not (is_control octets) && is_some lane, LANED) ∷ [])
+          (cond (is_control octets) (event_line lane (Frame port octets)) (Ok (Entry (Data port octets)))))
+      framed port octets low high h =
+          let read = cond (is_control octets) (event_line lane (Frame port octets)) (Ok (Entry (Data port octets))) in
+          let last = (not (is_control octets) && is_some lane, LANED) ∷ [] in
+          Gives-unless (IsAfter config) (not (has_port port config)) PORT last read (λ known.
+          Gives-unless (IsAfter config) (not (is_control octets) && is_some lane) LANED [] read (λ free.
+          let p : IsPort config port = record { low = low; high = high; known = not-false (has_port port config) known } in
+          Gives-if (IsAfter config) (is_control octets) (event_line lane (Frame port octets)) (Ok (Entry (Data port octets)))
+          (λ control. event_says config lane (Frame port octets) l (p, h, control)) (λ other. (p, h, other))))
 
-frame_says : (config : Config) (lane : Option ℕ) (args : List ℕ × List ℕ) → IsLane lane → Gives (IsAfter config) (frame_line config lane args)
-frame_says config lane args l =
-    Gives-needs (IsAfter config) 7 (number_in 1 60 args.0) (λ port. needs 8 (hex_in 0 2000 args.1) (λ octets. frame_entry config lane port octets)) (λ port is.
-    Gives-needs (IsAfter config) 8 (hex_in 0 2000 args.1) (λ octets. frame_entry config lane port octets) (λ octets has.
-    framed port octets (number_in-some 1 60 args.0 port is).0 (number_in-some 1 60 args.0 port is).1 (hex_in-some 0 2000 args.1 octets has)))
-  where
-    framed : (port : ℕ) (octets : List ℕ) → 1 ≤ port → port ≤ 60 → IsSized 0 2000 octets → Gives (IsAfter config) (frame_entry config lane port octets)
-    framed port octets low high h =
-        Gives-if (IsAfter config) (not (has_port port config)) (Err 10) (cond (is_control octets) (event_line lane (Frame port octets)) (data_line lane port octets)) (λ e. tt) (λ e.
-        let p : IsPort config port = record { low = low; high = high; known = not-false (has_port port config) e } in
-        Gives-if (IsAfter config) (is_control octets) (event_line lane (Frame port octets)) (data_line lane port octets)
-        (λ control. event_says config lane (Frame port octets) l (p, h, control)) (λ other. data_says config lane port octets p h other))
+  radius_says : (args : List (List ℕ)) → Gives (IsAfter config) (radius_line lane args)
+  radius_says args =
+      Gives-some (IsAfter config) (socket_of args) COUNT _ (λ word is.
+      Gives-some (IsAfter config) (number_in 0 4 word.0) NUMBER _ (λ socket numbered.
+      Gives-some (IsAfter config) (hex_in 0 5000 word.1) HEX _ (λ octets written.
+      event_says config lane (Radius socket octets) l ((number_in-some 0 4 word.0 socket numbered).1, hex_in-some 0 5000 word.1 octets written))))
 
-radius_says : (config : Config) (lane : Option ℕ) (word : List ℕ) → IsLane lane → Gives (IsAfter config) (radius_line lane word)
-radius_says config lane word l =
-    Gives-needs (IsAfter config) 8 (hex_in 0 5000 word) (λ octets. event_line lane (Radius octets)) (λ octets has. event_says config lane (Radius octets) l (hex_in-some 0 5000 word octets has))
+  dyn_says : (args : List (List ℕ)) → Gives (IsAfter config) (dyn_line lane args)
+  dyn_says args =
+      Gives-some (IsAfter config) (three_of args) COUNT _ (λ word is.
+      Gives-some (IsAfter config) (address_of word.0) NUMBER _ (λ ip at.
+      Gives-some (IsAfter config) (number_in 0 65535 word.1) NUMBER _ (λ port numbered.
+      Gives-some (IsAfter config) (hex_in 0 5000 word.2) HEX _ (λ octets written.
+      event_says config lane (Dynamic (record { ip = ip; port = port }) octets) l
+      (address_of-some word.0 ip at, (number_in-some 0 65535 word.1 port numbered).1, hex_in-some 0 5000 word.2 octets written)))))
 
-dyn_says : (config : Config) (lane : Option ℕ) (args : List ℕ × List ℕ × List ℕ) → IsLane lane → Gives (IsAfter config) (dyn_line lane args)
-dyn_says config lane args l =
-    Gives-needs (IsAfter config) 7 (address_of args.0) (λ ip. needs 7 (number_in 0 65535 args.1) (λ port. needs 8 (hex_in 0 5000 args.2) (λ octets. event_line lane (Dynamic (record { ip = ip; port = port }) octets)))) (λ ip at.
-    Gives-needs (IsAfter config) 7 (number_in 0 65535 args.1) (λ port. needs 8 (hex_in 0 5000 args.2) (λ octets. event_line lane (Dynamic (record { ip = ip; port = port }) octets))) (λ port is.
-    Gives-needs (IsAfter config) 8 (hex_in 0 5000 args.2) (λ octets. event_line lane (Dynamic (record { ip = ip; port = port }) octets)) (λ octets has.
-    event_says config lane (Dynamic (record { ip = ip; port = port }) octets) l (address_of-some args.0 ip at, (number_in-some 0 65535 args.1 port is).1, hex_in-some 0 5000 args.2 octets has))))
+  port_says : (port : ℕ) (event : Happening) → (IsPort config port → IsEvent config event) → 1 ≤ port → port ≤ 60 → Gives (IsAfter config) (port_event config lane port event)
+  port_says port event of_port low high =
+      Gives-unless (IsAfter config) (not (has_port port config)) PORT [] (event_line lane event)
+      (λ known. event_says config lane event l (of_port (record { low = low; high = high; known = not-false (has_port port config) known })))
 
-port_says : (config : Config) (lane : Option ℕ) (port : ℕ) (event : Happening) → (IsPort config port → IsEvent config event) → IsLane lane → 1 ≤ port → port ≤ 60
-    → Gives (IsAfter config) (port_event config lane port event)
-port_says config lane port event of_port l low high =
-    Gives-if (IsAfter config) (has_port port config) (event_line lane event) (Err 10)
-    (λ known. event_says config lane event l (of_port (record { low = low; high = high; known = known }))) (λ e. tt)
+  link_says : (args : List (List ℕ)) → Gives (IsAfter config) (link_line config lane args)
+  link_says args =
+      Gives-some (IsAfter config) (two_of args) COUNT _ (λ word is.
+      Gives-some (IsAfter config) (number_in 1 60 word.0) NUMBER _ (λ port numbered.
+      Gives-some (IsAfter config) (link_of word.1) NAME _ (λ up choice.
+      port_says port (Link port up) (λ p. p) (number_in-some 1 60 word.0 port numbered).0 (number_in-some 1 60 word.0 port numbered).1)))
 
-link_says : (config : Config) (lane : Option ℕ) (args : List ℕ × List ℕ) → IsLane lane → Gives (IsAfter config) (link_line config lane args)
-link_says config lane args l =
-    Gives-needs (IsAfter config) 7 (number_in 1 60 args.0) (λ port. needs 9 (link_of args.1) (λ up. port_event config lane port (Link port up))) (λ port is.
-    Gives-needs (IsAfter config) 9 (link_of args.1) (λ up. port_event config lane port (Link port up)) (λ up way.
-    port_says config lane port (Link port up) (λ p. p) l (number_in-some 1 60 args.0 port is).0 (number_in-some 1 60 args.0 port is).1))
+  control_says : (args : List (List ℕ)) → Gives (IsAfter config) (control_line config lane args)
+  control_says args =
+      Gives-some (IsAfter config) (two_of args) COUNT _ (λ word is.
+      Gives-some (IsAfter config) (number_in 1 60 word.0) NUMBER _ (λ port numbered.
+      Gives-some (IsAfter config) (control_of word.1) NAME _ (λ control choice.
+      port_says port (SetControl port control) (λ p. p) (number_in-some 1 60 word.0 port numbered).0 (number_in-some 1 60 word.0 port numbered).1)))
 
-control_says : (config : Config) (lane : Option ℕ) (args : List ℕ × List ℕ) → IsLane lane → Gives (IsAfter config) (control_line config lane args)
-control_says config lane args l =
-    Gives-needs (IsAfter config) 7 (number_in 1 60 args.0) (λ port. needs 9 (control_of args.1) (λ control. port_event config lane port (SetControl port control))) (λ port is.
-    Gives-needs (IsAfter config) 9 (control_of args.1) (λ control. port_event config lane port (SetControl port control)) (λ control way.
-    port_says config lane port (SetControl port control) (λ p. p) l (number_in-some 1 60 args.0 port is).0 (number_in-some 1 60 args.0 port is).1))
-
-record_says : (config : Config) (lane : Option ℕ) (word : RecordWord) (args : List (List ℕ)) → IsLane lane → Gives (IsAfter config) (record_line config lane word args)
-record_says config lane entry.Frame args l = Gives-needs (IsAfter config) 6 (two_of args) (frame_line config lane) (λ two is. frame_says config lane two l)
-record_says config lane entry.Radius args l = Gives-needs (IsAfter config) 6 (one_of args) (radius_line lane) (λ one is. radius_says config lane one l)
-record_says config lane entry.Dyn args l = Gives-needs (IsAfter config) 6 (three_of args) (dyn_line lane) (λ three is. dyn_says config lane three l)
-record_says config lane entry.Tick args l = Gives-alone (IsAfter config) (event_line lane Second) args (event_says config lane Second l tt)
-record_says config lane entry.Link args l = Gives-needs (IsAfter config) 6 (two_of args) (link_line config lane) (λ two is. link_says config lane two l)
-record_says config lane entry.Control args l = Gives-needs (IsAfter config) 6 (two_of args) (control_line config lane) (λ two is. control_says config lane two l)
+  record_says : (word : RecordWord) (args : List (List ℕ)) → Gives (IsAfter config) (record_line config lane word args)
+  record_says entry.Frame args = frame_says args
+  record_says entry.Radius args = radius_says args
+  record_says entry.Dyn args = dyn_says args
+  record_says entry.Tick args = Gives-alone (IsAfter config) (event_line lane Second) args (event_says config lane Second l tt)
+  record_says entry.Link args = link_says args
+  record_says entry.Control args = control_says args
 
 -- a line after `begin` is blank, the end of a phase or a record under the settings
 pub line_of-after : (config : Config) (given : ℕ) (line : List ℕ) → Gives (IsAfter config) (line_of config given true line)
 line_of-after config given line = line_of-gives (IsAfter config) config given true line tt placed
   where
-    placed : (lane : Option ℕ) (keyword : Keyword) (args : List (List ℕ)) → IsLane lane → ArePlain args → Gives (IsAfter config) (placed_line config given true lane keyword args)
-    placed lane (IsSetting word) args l hs = tt
-    placed lane (IsEntry word) args l hs = record_says config lane word args l
-    placed lane IsSync args l hs = Gives-alone (IsAfter config) (Ok Sync) args tt
+    placed : (lane : Option ℕ) (keyword : Option Keyword) (args : List (List ℕ)) → IsLane lane → ArePlain args → is_misplaced true keyword ≡ false
+        → Gives (IsAfter config) (keyword_line config given lane keyword args)
+    placed lane (Some (IsSetting word)) args l hs e = absurd (cc)
+    placed lane (Some (IsEntry word)) args l hs e = record_says config lane l word args
+    placed lane (Some IsSync) args l hs e = Gives-alone (IsAfter config) (Ok Sync) args tt
+    placed lane None args l hs e = tt

@@ -1,5 +1,5 @@
 -- Words of printable octets, and a line of them with a space between each two.
-use Rattle.std.proofs.Common.{◌≡◌, ◌≢◌, ℕ, zero, suc, ◌+◌, ◌-◌, ◌<◌, ◌≤◌, Bool, ◌&&◌, true, false, cond, eqb, ltb, leb, List, [], ◌∷◌, ◌++◌, length, take, slice_index, filter, refl, sym, ap, ◌∙◌, arith, Ok, Err, append-nil, length-append}
+use Rattle.std.proofs.Common.{◌≡◌, ◌≢◌, ℕ, zero, suc, ◌+◌, ◌-◌, ◌<◌, ◌≤◌, Bool, ◌&&◌, true, false, cond, eqb, ltb, leb, List, [], ◌∷◌, ◌++◌, length, take, slice_index, filter, refl, sym, ap, ◌∙◌, arith, Ok, append-nil, length-append}
 use Rattle.std.specs.List.{slice_split, All, list_all, flat_map}
 use Rattle.std.specs.Str.Lines.{strip_carriage_return}
 use Rattle.std.proofs.lemmas.Bool.{and_parts, and_from}
@@ -9,7 +9,8 @@ use Rattle.std.proofs.lemmas.List.Folds.{list_all-append}
 use Rattle.std.proofs.lemmas.List.Splits.{slice_split_at, slice_split_none}
 use Rattle.wire_defs.specs.Text.{words}
 use Rattle.switch_event.specs.Config.{Config}
-use Rattle.trace_defs.specs.Line.{line_of, first_line, words_line, is_comment, is_printable, text_line as line_text}
+use Rattle.trace_defs.specs.Line.{line_of, head_of, words_line, is_comment, is_printable, stripped_line}
+use Rattle.trace_defs.proofs.Headed.{spoken_line, headed-short}
 use Rattle.trace_defs.specs.Line.Line.{Blank}
 use Rattle.trace_defs.specs.Text.{spaced}
 
@@ -140,19 +141,18 @@ comment_of (x ∷ word) rest h = refl
 -- where its words are short enough, and it is no comment
 pub line_of-words : (config : Config) (given : ℕ) (begun : Bool) (most : ℕ) (mosts : List ℕ) (word : List ℕ) (args : List (List ℕ))
     → AreWords (most ∷ mosts) (word ∷ args) → is_comment word ≡ false → leb (room (most ∷ mosts)) 10240 ≡ true
-    → line_of config given begun (spaced (word ∷ args)) ≡ first_line config given begun word args
+    → line_of config given begun (spaced (word ∷ args)) ≡ spoken_line config given begun (head_of word args)
 line_of-words config given begun most mosts word args hs plain fits =
     let line = spaced (word ∷ args) in
     let printed : list_all is_printable line ≡ true = spaced-passes is_printable glyph_prints refl most mosts word args hs.0 hs.1 in
-    let short : ltb 10240 (length line) ≡ false = fewer (length line) (room (most ∷ mosts)) (spaced-long most mosts word args hs.0 hs.1) fits in
-    ap (line_text config given begun) (strip-plain line printed)
+    let short : length line ≤ 10240 = fewer (length line) (room (most ∷ mosts)) (spaced-long most mosts word args hs.0 hs.1) fits in
+    ap (stripped_line config given begun) (strip-plain line printed)
     ∙ ap (λ b. cond b (Ok Blank) (words_line config given begun line (words line))) (comment_of word (flat_map (λ next. 32 ∷ next) args) hs.0.some ∙ plain)
     ∙ ap (words_line config given begun line) (words-spaced most mosts word args hs.0 hs.1)
-    ∙ ap (λ b. cond b (Err 1) (cond (list_all is_printable line) (first_line config given begun word args) (Err 2))) short
-    ∙ ap (λ b. cond b (first_line config given begun word args) (Err 2)) printed
+    ∙ headed-short config given begun line (head_of word args) short printed
   where
     glyph_prints : (x : ℕ) → is_glyph x ≡ true → is_printable x ≡ true
     glyph_prints x h = grind (arith, nat_tests)
 
-    fewer : (n r : ℕ) → n ≤ r → leb r 10240 ≡ true → ltb 10240 n ≡ false
+    fewer : (n r : ℕ) → n ≤ r → leb r 10240 ≡ true → n ≤ 10240
     fewer n r h fits = grind (arith, nat_tests)

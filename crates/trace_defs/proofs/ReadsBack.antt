@@ -4,7 +4,7 @@ use Rattle.std.specs.List.{list_all, flat_map}
 use Rattle.std.proofs.lemmas.Bool.Decides.{nat_tests}
 use Rattle.wire_defs.specs.Text.{ended_lines}
 use Rattle.switch_event.specs.Config.{Config, empty}
-use Rattle.trace_defs.specs.Line.{Record, line_of}
+use Rattle.trace_defs.specs.Line.{Record, all_given, line_of}
 use Rattle.trace_defs.specs.Line.Line.{Sync}
 use Rattle.trace_defs.specs.Line.Record.{Control, Data}
 use Rattle.trace_defs.specs.Text.{config_lines, config_text, record_text, text_line}
@@ -21,7 +21,7 @@ use Rattle.trace_defs.proofs.ConfigBack.{config_text-back}
 
 -- a trace behind its settings: so many lines and control records, the phases that ended, and the open one
 abbrev pub behind : Config → ℕ → ℕ → List (List Record) → List Record → Progress
-behind c lines controls done current = record (start c) { given = 2047; begun = true; lines = lines; controls = controls; done = done; current = current }
+behind c lines controls done current = record (start c) { given = all_given; begun = true; lines = lines; controls = controls; done = done; current = current }
 
 same : {c : Config} {done : List (List Record)} (n n' controls controls' : ℕ) (current current' : List Record) → n ≡ n' → controls ≡ controls' → current ≡ current'
     → behind c n controls done current ≡ behind c n' controls' done current'
@@ -48,7 +48,7 @@ records_back room c n controls done current (Control lane event ∷ records) mor
     let rest = ended_lines (flat_map record_text records ++ more) in
     let p = behind c n controls done current in
     ap (read_lines room p) (first_line_is r records back.0 more back.1.text_is back.1.unfed)
-    ∙ ap (λ l. go_on p (add_line room p l) (λ q. read_lines room q rest)) (back.1.reads 2047)
+    ∙ ap (λ l. go_on p (add_line room p l) (λ q. read_lines room q rest)) (back.1.reads all_given)
     ∙ ap (λ b. go_on p (cond b (Ok (behind c (n + 1) (controls + 1) done (current ++ r ∷ []))) (Err Full)) (λ q. read_lines room q rest)) (below controls room (omega (arith, fits)))
     ∙ records_back room c (n + 1) (controls + 1) done (current ++ r ∷ []) records more hs.1 (omega (arith, fits))
     ∙ ap (λ p. read_lines room p (ended_lines more)) (
@@ -64,7 +64,7 @@ records_back room c n controls done current (Data port octets ∷ records) more 
     let rest = ended_lines (flat_map record_text records ++ more) in
     let p = behind c n controls done current in
     ap (read_lines room p) (first_line_is r records back.0 more back.1.text_is back.1.unfed)
-    ∙ ap (λ l. go_on p (add_line room p l) (λ q. read_lines room q rest)) (back.1.reads 2047)
+    ∙ ap (λ l. go_on p (add_line room p l) (λ q. read_lines room q rest)) (back.1.reads all_given)
     ∙ records_back room c (n + 1) controls done (current ++ r ∷ []) records more hs.1 fits
     ∙ ap (λ p. read_lines room p (ended_lines more)) (
     same (n + 1 + length records) (n + suc (length records)) (controls + controls_in records) (controls + controls_in records) ((current ++ r ∷ []) ++ records) (current ++ r ∷ records)
@@ -75,7 +75,7 @@ records_back room c n controls done current (Data port octets ∷ records) more 
 pub trace_reads_back : (room : ℕ) (lines : List (List ℕ)) (p : Progress) → read_lines room (start empty) lines ≡ Going p → p.begun ≡ true
     → read_lines room (start empty) (ended_lines (config_text p.config ++ flat_map record_text (records_of p)))
     ≡ Going (record (start p.config) {
-      given = 2047;
+      given = all_given;
       begun = true;
       lines = length (config_lines p.config) + length (records_of p);
       controls = p.controls;
@@ -126,7 +126,7 @@ phases_back room c n controls done (phase ∷ phases) more hs fits =
     ap (λ text. read_lines room (behind c n controls done []) (ended_lines text)) (split phase phases more)
     ∙ records_back room c n controls done [] phase (codes "sync" ++ 10 ∷ rest) parts.0 (omega (arith, counted, fits))
     ∙ ap (read_lines room p) (ended_lines-line (codes "sync") rest refl)
-    ∙ ap (λ l. go_on p (add_line room p l) (λ q. read_lines room q (ended_lines rest))) (sync_back c 2047)
+    ∙ ap (λ l. go_on p (add_line room p l) (λ q. read_lines room q (ended_lines rest))) (sync_back c all_given)
     ∙ phases_back room c (n + length phase + 1) (controls + controls_in phase) (done ++ phase ∷ []) phases more parts.1 (omega (arith, counted, fits))
     ∙ ap₂ (λ p all. read_lines room (record p { done = all }) (ended_lines more)) (
     same {done = done} (n + length phase + 1 + lines_in phases) (n + (length phase + 1 + lines_in phases)) (controls + controls_in phase + controls_in (all_of phases)) (controls + controls_in (phase ++ all_of phases)) [] []
@@ -146,7 +146,7 @@ trace_text p = config_text p.config ++ (flat_map phase_text p.done ++ flat_map r
 -- a trace that was read is printed as a text that reads as that trace: its settings, its phases and its records
 pub phases_read_back : (room : ℕ) (lines : List (List ℕ)) (p : Progress) → read_lines room (start empty) lines ≡ Going p → p.begun ≡ true
     → read_lines room (start empty) (ended_lines (trace_text p))
-    ≡ Going (record p { given = 2047; lines = length (config_lines p.config) + lines_in p.done + length p.current })
+    ≡ Going (record p { given = all_given; lines = length (config_lines p.config) + lines_in p.done + length p.current })
 phases_read_back room lines p e begun =
     let h = reading_sound room lines p e in
     let n = length (config_lines p.config) in
@@ -156,7 +156,7 @@ phases_read_back room lines p e begun =
     ∙ phases_back room p.config n 0 [] p.done (flat_map record_text p.current) parts.0 (omega (arith, counted, h.counted, h.fits))
     ∙ ap (λ text. read_lines room (behind p.config (n + lines_in p.done) (0 + controls_in (all_of p.done)) p.done []) (ended_lines text)) (sym (append-nil (flat_map record_text p.current)))
     ∙ records_back room p.config (n + lines_in p.done) (0 + controls_in (all_of p.done)) p.done [] p.current [] parts.1 (omega (arith, counted, h.counted, h.fits))
-    ∙ ap₂ (λ k b. Going (record p { given = 2047; begun = b; lines = n + lines_in p.done + length p.current; controls = k })) (omega (arith, counted, h.counted)) (sym begun)
+    ∙ ap₂ (λ k b. Going (record p { given = all_given; begun = b; lines = n + lines_in p.done + length p.current; controls = k })) (omega (arith, counted, h.counted)) (sym begun)
 
 -- two traces that are printed alike have the same settings, the same phases and the same records
 pub trace_text-injective : (room : ℕ) (xs ys : List (List ℕ)) (p q : Progress) → read_lines room (start empty) xs ≡ Going p → p.begun ≡ true

@@ -1,35 +1,34 @@
 -- A printed record reads back as what it was.
-use Rattle.std.proofs.Common.{◌≡◌, ℕ, zero, suc, ◌+◌, ◌<◌, ◌≤◌, true, false, cond, not, eqb, leb, List, [], ◌∷◌, ◌++◌, codes, Option, Some, None, Result, Ok, Err, refl, ap, ◌∙◌, arith}
+use Rattle.std.proofs.Common.{◌≡◌, ℕ, zero, suc, ◌+◌, ◌<◌, ◌≤◌, true, false, cond, not, ◌&&◌, is_some, eqb, leb, List, [], ◌∷◌, ◌++◌, codes, Option, Some, None, Result, Ok, refl, ap, ◌∙◌, arith}
 use Rattle.std.specs.List.{list_all}
-use Rattle.std.specs.Fmt.{decimal}
+use Rattle.std.specs.Fmt.{decimal, digits}
+use Rattle.std.proofs.lemmas.Bool.Decides.{nat_tests}
 use Rattle.std.proofs.lemmas.Fmt.{decimal_digit}
 use Rattle.wire_defs.specs.Ethernet.{is_control}
 use Rattle.wire_defs.specs.Number.{number_in}
 use Rattle.wire_defs.specs.Text.{ended_lines}
-use Rattle.switch_event.specs.Config.{Config}
+use Rattle.switch_event.specs.Config.{Config, has_port}
 use Rattle.switch_event.specs.Event.{Happening, Frame, Radius, Dynamic, Second, Link, SetControl}
-use Rattle.trace_defs.specs.declared.RecordWord.{RecordWord}
-use Rattle.trace_defs.specs.declared.RecordWord.TheVariants as entry
-use Rattle.trace_defs.specs.Word.{hex_in, link_of, control_of}
+use Rattle.trace_defs.specs.declared.keyword.RecordWord.{RecordWord}
+use Rattle.trace_defs.specs.declared.keyword.RecordWord.TheVariants as entry
+use Rattle.trace_defs.specs.Word.{address_of, hex_in, link_of, control_of}
 use Rattle.trace_defs.specs.Text.{spaced, text_line, dotted, octets_text, control_text, link_text, event_words, record_text}
-use Rattle.trace_defs.specs.Line.{Record, Line, needs, is_built, in_lane, event_line, data_line, frame_entry, port_event, record_line, laned_line, first_line, is_comment, line_of}
+use Rattle.trace_defs.specs.declared.reason.TheConstants.{NUMBER, HEX, NAME, PORT, LANED, UNBUILT}
+use Rattle.trace_defs.specs.Line.{Record, Line, head_of, behind_mark, is_built, in_lane, event_line, frame_line, radius_line, port_event, record_line, is_comment, line_of}
+use Rattle.trace_defs.proofs.Headed.{with-some, unless-next, spoken_line}
 use Rattle.trace_defs.specs.Line.Record.{Control, Data}
 use Rattle.trace_defs.specs.Line.Line.{Entry}
 use Rattle.trace_defs.proofs.PlainWords.{IsWord, word_by_test, AreWords, room, line_of-words}
 use Rattle.trace_defs.proofs.TextLines.{is_no_feed, words-unfed, ended_lines-line}
 use Rattle.trace_defs.proofs.NumberText.{number_back, number_word, address_back, address_word}
-use Rattle.trace_defs.proofs.OctetText.{octets_back, octets_word, control_back, control_word, link_back, link_word}
+use Rattle.trace_defs.proofs.OctetText.{IsSized, octets_back, octets_word, control_back, control_word, link_back, link_word}
 use Rattle.trace_defs.proofs.LineFacts.{IsPort, IsEvent, IsRecord, IsAfter, Gives-at, line_of-after}
-
--- a part of a line that is there
-pub needs-some : {A : Type 0} (why : ℕ) (o : Option A) (x : A) (f : A → Result Line ℕ) → o ≡ Some x → needs why o f ≡ f x
-needs-some why o x f e = ap (λ o. needs why o f) e
 
 -- ---- the words of a control event
 
 abbrev keyword : Happening → RecordWord
 keyword (Frame port octets) = entry.Frame
-keyword (Radius octets) = entry.Radius
+keyword (Radius socket octets) = entry.Radius
 keyword (Dynamic from octets) = entry.Dyn
 keyword Second = entry.Tick
 keyword (Link port up) = entry.Link
@@ -37,7 +36,7 @@ keyword (SetControl port control) = entry.Control
 
 abbrev first : Happening → List ℕ
 first (Frame port octets) = codes "frame"
-first (Radius octets) = codes "radius"
+first (Radius socket octets) = codes "radius"
 first (Dynamic from octets) = codes "dyn"
 first Second = codes "tick"
 first (Link port up) = codes "link"
@@ -45,7 +44,8 @@ first (SetControl port control) = codes "control"
 
 abbrev args : Happening → List (List ℕ)
 args (Frame port octets) = decimal port ∷ octets_text octets ∷ []
-args (Radius octets) = octets_text octets ∷ []
+args (Radius zero octets) = octets_text octets ∷ []
+args (Radius (suc n) octets) = decimal (suc n) ∷ octets_text octets ∷ []
 args (Dynamic from octets) = dotted from.ip ∷ decimal from.port ∷ octets_text octets ∷ []
 args Second = []
 args (Link port up) = decimal port ∷ link_text up ∷ []
@@ -53,15 +53,20 @@ args (SetControl port control) = decimal port ∷ control_text control ∷ []
 
 abbrev mosts : Happening → List ℕ
 mosts (Frame port octets) = 20 ∷ 4001 ∷ []
-mosts (Radius octets) = 10001 ∷ []
+mosts (Radius zero octets) = 10001 ∷ []
+mosts (Radius (suc n) octets) = 20 ∷ 10001 ∷ []
 mosts (Dynamic from octets) = 83 ∷ 20 ∷ 10001 ∷ []
 mosts Second = []
 mosts (Link port up) = 20 ∷ 4 ∷ []
 mosts (SetControl port control) = 20 ∷ 12 ∷ []
 
+above : (n : ℕ) → eqb (suc n) 0 ≡ false
+above n = grind (arith, nat_tests)
+
 words_are : (event : Happening) → event_words event ≡ first event ∷ args event
 words_are (Frame port octets) = refl
-words_are (Radius octets) = refl
+words_are (Radius zero octets) = refl
+words_are (Radius (suc n) octets) = ap (λ b. codes "radius" ∷ cond b [] (decimal (suc n) ∷ []) ++ octets_text octets ∷ []) (above n)
 words_are (Dynamic from octets) = refl
 words_are Second = refl
 words_are (Link port up) = refl
@@ -69,7 +74,7 @@ words_are (SetControl port control) = refl
 
 first_word : (event : Happening) → IsWord 7 (first event)
 first_word (Frame port octets) = word_by_test 7 (codes "frame") refl
-first_word (Radius octets) = word_by_test 7 (codes "radius") refl
+first_word (Radius socket octets) = word_by_test 7 (codes "radius") refl
 first_word (Dynamic from octets) = word_by_test 7 (codes "dyn") refl
 first_word Second = word_by_test 7 (codes "tick") refl
 first_word (Link port up) = word_by_test 7 (codes "link") refl
@@ -80,7 +85,8 @@ small most n h k = omega arith
 
 args_words : (config : Config) (event : Happening) → IsEvent config event → AreWords (mosts event) (args event)
 args_words config (Frame port octets) h = (number_word port (small 60 port h.0.high (omega arith)), (octets_word 2000 octets h.1, tt))
-args_words config (Radius octets) h = (octets_word 5000 octets h, tt)
+args_words config (Radius zero octets) h = (octets_word 5000 octets h.1, tt)
+args_words config (Radius (suc n) octets) h = (number_word (suc n) (small 4 (suc n) h.0 (omega arith)), (octets_word 5000 octets h.1, tt))
 args_words config (Dynamic from octets) h = (address_word from.ip h.0, (number_word from.port (small 65535 from.port h.1 (omega arith)), (octets_word 5000 octets h.2, tt)))
 args_words config Second h = tt
 args_words config (Link port up) h = (number_word port (small 60 port h.high (omega arith)), (link_word up, tt))
@@ -88,7 +94,8 @@ args_words config (SetControl port control) h = (number_word port (small 60 port
 
 fits : (event : Happening) → leb (room (7 ∷ mosts event)) 10240 ≡ true
 fits (Frame port octets) = refl
-fits (Radius octets) = refl
+fits (Radius zero octets) = refl
+fits (Radius (suc n) octets) = refl
 fits (Dynamic from octets) = refl
 fits Second = refl
 fits (Link port up) = refl
@@ -96,7 +103,8 @@ fits (SetControl port control) = refl
 
 fits_marked : (event : Happening) → leb (room (2 ∷ 7 ∷ mosts event)) 10240 ≡ true
 fits_marked (Frame port octets) = refl
-fits_marked (Radius octets) = refl
+fits_marked (Radius zero octets) = refl
+fits_marked (Radius (suc n) octets) = refl
 fits_marked (Dynamic from octets) = refl
 fits_marked Second = refl
 fits_marked (Link port up) = refl
@@ -104,7 +112,7 @@ fits_marked (SetControl port control) = refl
 
 no_comment : (event : Happening) → is_comment (first event) ≡ false
 no_comment (Frame port octets) = refl
-no_comment (Radius octets) = refl
+no_comment (Radius socket octets) = refl
 no_comment (Dynamic from octets) = refl
 no_comment Second = refl
 no_comment (Link port up) = refl
@@ -112,51 +120,69 @@ no_comment (SetControl port control) = refl
 
 -- ---- what they are read as
 
-first_is : (config : Config) (given : ℕ) (event : Happening) → first_line config given true (first event) (args event) ≡ record_line config None (keyword event) (args event)
+first_is : (config : Config) (given : ℕ) (event : Happening) → spoken_line config given true (head_of (first event) (args event)) ≡ record_line config None (keyword event) (args event)
 first_is config given (Frame port octets) = refl
-first_is config given (Radius octets) = refl
+first_is config given (Radius socket octets) = refl
 first_is config given (Dynamic from octets) = refl
 first_is config given Second = refl
 first_is config given (Link port up) = refl
 first_is config given (SetControl port control) = refl
 
 laned_is : (config : Config) (given lane : ℕ) (event : Happening)
-    → laned_line config given true lane (first event ∷ args event) ≡ record_line config (Some lane) (keyword event) (args event)
+    → spoken_line config given true (behind_mark (Some lane) (first event ∷ args event)) ≡ record_line config (Some lane) (keyword event) (args event)
 laned_is config given lane (Frame port octets) = refl
-laned_is config given lane (Radius octets) = refl
+laned_is config given lane (Radius socket octets) = refl
 laned_is config given lane (Dynamic from octets) = refl
 laned_is config given lane Second = refl
 laned_is config given lane (Link port up) = refl
 laned_is config given lane (SetControl port control) = refl
 
-frame_back : (config : Config) (lane : Option ℕ) (port : ℕ) (octets : List ℕ) → IsPort config port
-    → frame_entry config lane port octets ≡ cond (is_control octets) (event_line lane (Frame port octets)) (data_line lane port octets)
-frame_back config lane port octets p =
-    ap (λ b. cond (not b) (Err 10) (cond (is_control octets) (event_line lane (Frame port octets)) (data_line lane port octets))) p.known
+-- a frame on a port of the settings, which has no lane where it is data
+abbrev framed : Option ℕ → ℕ → List ℕ → Result Line ℕ
+framed lane port octets = cond (is_control octets) (event_line lane (Frame port octets)) (Ok (Entry (Data port octets)))
+
+frame_back : (config : Config) (lane : Option ℕ) (port : ℕ) (octets : List ℕ) → IsPort config port → IsSized 0 2000 octets → (not (is_control octets) && is_some lane) ≡ false
+    → frame_line config lane (decimal port ∷ octets_text octets ∷ []) ≡ framed lane port octets
+frame_back config lane port octets p h free =
+    with-some (number_in 1 60 (decimal port)) port NUMBER _ (number_back 1 60 port p.low p.high (small 60 port p.high (omega arith)))
+    ∙ with-some (hex_in 0 2000 (octets_text octets)) octets HEX _ (octets_back 2000 octets h)
+    ∙ unless-next (not (has_port port config)) PORT ((not (is_control octets) && is_some lane, LANED) ∷ []) (framed lane port octets) (ap not p.known)
+    ∙ unless-next (not (is_control octets) && is_some lane) LANED [] (framed lane port octets) free
+
+port_back : (config : Config) (lane : Option ℕ) (port : ℕ) (event : Happening) → IsPort config port → port_event config lane port event ≡ event_line lane event
+port_back config lane port event p = unless-next (not (has_port port config)) PORT [] (event_line lane event) (ap not p.known)
+
+zero_word : number_in 0 4 (codes "0") ≡ Some 0
+unfolding digits
+zero_word = refl
+
+socket_back : (lane : Option ℕ) (socket : ℕ) (word octets : List ℕ) → number_in 0 4 word ≡ Some socket → IsSized 0 5000 octets
+    → radius_line lane (word ∷ octets_text octets ∷ []) ≡ event_line lane (Radius socket octets)
+socket_back lane socket word octets is h = with-some (number_in 0 4 word) socket NUMBER _ is ∙ with-some (hex_in 0 5000 (octets_text octets)) octets HEX _ (octets_back 5000 octets h)
 
 event_back : (config : Config) (lane : Option ℕ) (event : Happening) → IsEvent config event → record_line config lane (keyword event) (args event) ≡ event_line lane event
 event_back config lane (Frame port octets) h =
-    needs-some 7 _ port (λ port. needs 8 (hex_in 0 2000 (octets_text octets)) (λ octets. frame_entry config lane port octets)) (number_back 1 60 port h.0.low h.0.high (small 60 port h.0.high (omega arith)))
-    ∙ needs-some 8 _ octets (λ octets. frame_entry config lane port octets) (octets_back 2000 octets h.1)
-    ∙ frame_back config lane port octets h.0
-    ∙ ap (λ b. cond b (event_line lane (Frame port octets)) (data_line lane port octets)) h.2
-event_back config lane (Radius octets) h = needs-some 8 _ octets (λ octets. event_line lane (Radius octets)) (octets_back 5000 octets h)
+    frame_back config lane port octets h.0 h.1 (ap (λ b. not b && is_some lane) h.2)
+    ∙ ap (λ b. cond b (event_line lane (Frame port octets)) (Ok (Entry (Data port octets)))) h.2
+event_back config lane (Radius zero octets) h = socket_back lane 0 (codes "0") octets zero_word h.1
+event_back config lane (Radius (suc n) octets) h =
+    socket_back lane (suc n) (decimal (suc n)) octets (number_back 0 4 (suc n) (omega arith) h.0 (small 4 (suc n) h.0 (omega arith))) h.1
 event_back config lane (Dynamic from octets) h =
-    needs-some 7 _ from.ip (λ ip. needs 7 (number_in 0 65535 (decimal from.port)) (λ port. needs 8 (hex_in 0 5000 (octets_text octets)) (λ octets. event_line lane (Dynamic (record { ip = ip; port = port }) octets)))) (address_back from.ip h.0)
-    ∙ needs-some 7 _ from.port (λ port. needs 8 (hex_in 0 5000 (octets_text octets)) (λ octets. event_line lane (Dynamic (record { ip = from.ip; port = port }) octets))) (number_back 0 65535 from.port (omega arith) h.1 (small 65535 from.port h.1 (omega arith)))
-    ∙ needs-some 8 _ octets (λ octets. event_line lane (Dynamic from octets)) (octets_back 5000 octets h.2)
+    with-some (address_of (dotted from.ip)) from.ip NUMBER _ (address_back from.ip h.0)
+    ∙ with-some (number_in 0 65535 (decimal from.port)) from.port NUMBER _ (number_back 0 65535 from.port (omega arith) h.1 (small 65535 from.port h.1 (omega arith)))
+    ∙ with-some (hex_in 0 5000 (octets_text octets)) octets HEX _ (octets_back 5000 octets h.2)
 event_back config lane Second h = refl
 event_back config lane (Link port up) h =
-    needs-some 7 _ port (λ port. needs 9 (link_of (link_text up)) (λ up. port_event config lane port (Link port up))) (number_back 1 60 port h.low h.high (small 60 port h.high (omega arith)))
-    ∙ needs-some 9 _ up (λ up. port_event config lane port (Link port up)) (link_back up)
-    ∙ ap (λ b. cond b (event_line lane (Link port up)) (Err 10)) h.known
+    with-some (number_in 1 60 (decimal port)) port NUMBER _ (number_back 1 60 port h.low h.high (small 60 port h.high (omega arith)))
+    ∙ with-some (link_of (link_text up)) up NAME _ (link_back up)
+    ∙ port_back config lane port (Link port up) h
 event_back config lane (SetControl port control) h =
-    needs-some 7 _ port (λ port. needs 9 (control_of (control_text control)) (λ control. port_event config lane port (SetControl port control))) (number_back 1 60 port h.low h.high (small 60 port h.high (omega arith)))
-    ∙ needs-some 9 _ control (λ control. port_event config lane port (SetControl port control)) (control_back control)
-    ∙ ap (λ b. cond b (event_line lane (SetControl port control)) (Err 10)) h.known
+    with-some (number_in 1 60 (decimal port)) port NUMBER _ (number_back 1 60 port h.low h.high (small 60 port h.high (omega arith)))
+    ∙ with-some (control_of (control_text control)) control NAME _ (control_back control)
+    ∙ port_back config lane port (SetControl port control) h
 
 built_line : (lane : Option ℕ) (event : Happening) → is_built event ≡ true → event_line lane event ≡ Ok (Entry (Control (in_lane lane) event))
-built_line lane event h = ap (λ b. cond b (Ok (Entry (Control (in_lane lane) event))) (Err 14)) h
+built_line lane event h = unless-next (not (is_built event)) UNBUILT [] (Ok (Entry (Control (in_lane lane) event))) (ap not h)
 
 -- ---- records
 
@@ -178,7 +204,7 @@ plain_event config event h built =
 
 -- behind the mark of another lane
 marked_event : (config : Config) (lane : ℕ) (event : Happening) → lane < 10 → eqb lane 1 ≡ false → IsWord 2 (64 ∷ (48 + lane) ∷ []) → IsEvent config event → is_built event ≡ true
-    → ((given : ℕ) (rest : List (List ℕ)) → first_line config given true (64 ∷ (48 + lane) ∷ []) rest ≡ laned_line config given true lane rest)
+    → ((rest : List (List ℕ)) → head_of (64 ∷ (48 + lane) ∷ []) rest ≡ behind_mark (Some lane) rest)
     → IsPrinted config (Control lane event) (spaced ((64 ∷ (48 + lane) ∷ []) ∷ first event ∷ args event))
 marked_event config lane event digit other word h built reads_mark =
     let mark = 64 ∷ (48 + lane) ∷ [] in
@@ -189,7 +215,7 @@ marked_event config lane event digit other word h built reads_mark =
           ∙ ap (λ ws. 64 ∷ (48 + lane) ∷ 32 ∷ text_line ws) (words_are event);
       unfed = (words-unfed (2 ∷ 7 ∷ mosts event) (mark ∷ first event ∷ args event) (word, (first_word event, hs))).plain;
       reads = λ given. line_of-words config given true 2 (7 ∷ mosts event) mark (first event ∷ args event) (word, (first_word event, hs)) refl (fits_marked event)
-          ∙ reads_mark given (first event ∷ args event) ∙ laned_is config given lane event ∙ event_back config (Some lane) event h ∙ built_line (Some lane) event built;
+          ∙ ap (spoken_line config given true) (reads_mark (first event ∷ args event)) ∙ laned_is config given lane event ∙ event_back config (Some lane) event h ∙ built_line (Some lane) event built;
     }
 
 data_record : (config : Config) (port : ℕ) (octets : List ℕ) → IsRecord config (Data port octets) → IsPrinted config (Data port octets) (spaced (codes "frame" ∷ decimal port ∷ octets_text octets ∷ []))
@@ -201,18 +227,16 @@ data_record config port octets h =
       text_is = refl;
       unfed = (words-unfed (7 ∷ 20 ∷ 4001 ∷ []) (codes "frame" ∷ decimal port ∷ octets_text octets ∷ []) (word, hs)).plain;
       reads = λ given. line_of-words config given true 7 (20 ∷ 4001 ∷ []) (codes "frame") (decimal port ∷ octets_text octets ∷ []) (word, hs) refl refl
-          ∙ needs-some 7 _ port (λ port. needs 8 (hex_in 0 2000 (octets_text octets)) (λ octets. frame_entry config None port octets)) (number_back 1 60 port h.0.low h.0.high low)
-          ∙ needs-some 8 _ octets (λ octets. frame_entry config None port octets) (octets_back 2000 octets h.1)
-          ∙ frame_back config None port octets h.0
-          ∙ ap (λ b. cond b (event_line None (Frame port octets)) (data_line None port octets)) h.2;
+          ∙ frame_back config None port octets h.0 h.1 (ap (λ b. not b && false) h.2)
+          ∙ ap (λ b. cond b (event_line None (Frame port octets)) (Ok (Entry (Data port octets)))) h.2;
     }
 
 -- a record that a line can write is printed as a line that reads as it
 pub record_back : (config : Config) (r : Record) → IsRecord config r → (text : List ℕ) × IsPrinted config r text
 record_back config (Control zero event) h = absurd (omega (arith, h.0))
 record_back config (Control (suc zero) event) h = (_, plain_event config event h.2 h.3)
-record_back config (Control (suc (suc zero)) event) h = (_, marked_event config 2 event (omega arith) refl (word_by_test 2 (codes "@2") refl) h.2 h.3 (λ given rest. refl))
-record_back config (Control (suc (suc (suc zero))) event) h = (_, marked_event config 3 event (omega arith) refl (word_by_test 2 (codes "@3") refl) h.2 h.3 (λ given rest. refl))
+record_back config (Control (suc (suc zero)) event) h = (_, marked_event config 2 event (omega arith) refl (word_by_test 2 (codes "@2") refl) h.2 h.3 (λ rest. refl))
+record_back config (Control (suc (suc (suc zero))) event) h = (_, marked_event config 3 event (omega arith) refl (word_by_test 2 (codes "@3") refl) h.2 h.3 (λ rest. refl))
 record_back config (Control (suc (suc (suc (suc more)))) event) h = absurd (omega (arith, h.1))
 record_back config (Data port octets) h = (_, data_record config port octets h)
 

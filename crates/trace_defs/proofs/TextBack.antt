@@ -6,7 +6,7 @@ use Rattle.std.proofs.lemmas.Bool.Decides.{nat_tests}
 use Rattle.wire_defs.specs.Text.{ended_lines, open_line, open_after, last_line}
 use Rattle.wire_defs.proofs.TextLemmas.{open_line-append}
 use Rattle.switch_event.specs.Config.{empty}
-use Rattle.trace_defs.specs.Line.{Record}
+use Rattle.trace_defs.specs.Line.{Record, all_given}
 use Rattle.trace_defs.specs.Line.Record.{Control, Data}
 use Rattle.trace_defs.specs.Text.{spaced, text_line, event_words, octets_text, lane_mark, config_lines, config_text, record_text}
 use Rattle.trace_defs.specs.Trace.{Progress, start, read_lines, counted_lines, trace_of, fate_of, fate, whole_of, whole}
@@ -55,7 +55,7 @@ counted_lines-closed limit text fits closed =
 
 -- a text that was read to its end is printed as a text that reads as the same trace
 pub text_reads_back : (limit room : ℕ) (text : List ℕ) (p : Progress) → trace_of limit room empty text ≡ Going p → p.begun ≡ true → length (trace_text p) ≤ limit
-    → trace_of limit room empty (trace_text p) ≡ Going (record p { given = 2047; lines = length (config_lines p.config) + lines_in p.done + length p.current })
+    → trace_of limit room empty (trace_text p) ≡ Going (record p { given = all_given; lines = length (config_lines p.config) + lines_in p.done + length p.current })
 text_reads_back limit room text p e begun fits =
     ap (read_lines room (start empty)) (counted_lines-closed limit (trace_text p) fits (trace_text-closed p)) ∙ phases_read_back room (counted_lines limit text) p e begun
 
@@ -63,7 +63,7 @@ text_reads_back limit room text p e begun fits =
 pub whole_reads_back : (limit room : ℕ) (text : List ℕ) (p : Progress) → trace_of limit room empty text ≡ Going p → p.begun ≡ true → length text ≤ limit → length (trace_text p) ≤ limit
     → (whole limit room empty (trace_text p) ≡ whole limit room empty text) × (fate limit room empty (trace_text p) ≡ 0)
 whole_reads_back limit room text p e begun short fits =
-    let q : Progress = record p { given = 2047; lines = length (config_lines p.config) + lines_in p.done + length p.current } in
+    let q : Progress = record p { given = all_given; lines = length (config_lines p.config) + lines_in p.done + length p.current } in
     let again = text_reads_back limit room text p e begun fits in (
       ap₂ whole_of (within (length (trace_text p)) limit fits) again ∙ sym (ap₂ whole_of (within (length text) limit short) e),
       ap₂ fate_of (within (length (trace_text p)) limit fits) again ∙ ap (λ b. cond b 0 3) begun,

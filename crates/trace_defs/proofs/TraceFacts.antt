@@ -4,6 +4,7 @@ use Rattle.std.specs.List.{flat_map}
 use Rattle.std.proofs.lemmas.Bool.Decides.{nat_tests}
 use Rattle.std.proofs.lemmas.List.Concat.{flat_map-append}
 use Rattle.switch_event.specs.Config.{Config, empty}
+use Rattle.trace_defs.specs.declared.given.TheConstants.{SERVER}
 use Rattle.trace_defs.specs.Line.{Record, Line, was_given, line_of}
 use Rattle.trace_defs.specs.Line.Record.{Control, Data}
 use Rattle.trace_defs.specs.Line.Line.{Blank, Begin, Sync, Setting, Entry}
@@ -40,7 +41,7 @@ controls_in-append (Data port octets ∷ xs) ys = controls_in-append xs ys
 -- settings that lines can write, with a server once they are ended, and records that lines can write under them
 pub record IsSound (room : ℕ) (p : Progress) : Type 0 where
   pub read : IsRead p.config p.given
-  pub begun : p.begun ≡ true → was_given 2 p.given ≡ true
+  pub begun : p.begun ≡ true → was_given SERVER p.given ≡ true
   pub none : p.begun ≡ false → records_of p ≡ []
   pub records : AreRecords p.config (records_of p)
   pub counted : controls_in (records_of p) ≡ p.controls

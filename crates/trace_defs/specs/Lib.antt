@@ -1,9 +1,9 @@
 pub mod Reason
 pub mod Word
+pub mod Refusal
 pub mod Line
 pub mod Text
-pub mod Kept
+pub mod Alike
 pub mod Trace
 pub mod Reading
 pub mod Output
-pub mod Status

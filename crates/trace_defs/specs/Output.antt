@@ -1,33 +1,37 @@
 -- The text that is printed for records.
-use Rattle.std.specs.Prelude.{ℕ, ◌+◌, ◌==◌, if◌then◌else◌, List, [], ◌∷◌, ◌++◌, codes}
-use Rattle.std.specs.List.{flat_map, concat}
+use Rattle.std.specs.Prelude.{ℕ, ◌==◌, if◌then◌else◌, nat_lt, Bool, true, List, [], ◌∷◌, ◌++◌, length, codes}
+use Rattle.std.specs.List.{concat, flat_map}
 use Rattle.std.specs.Fmt.{decimal}
 use Rattle.hex.specs.Hex.{encode_lower}
 use Rattle.wire_defs.specs.Ethernet.{tagged}
 use Rattle.switch_event.specs.declared.event.Outcome.{Outcome}
 use Rattle.switch_event.specs.declared.event.Outcome.TheVariants.{Done, FrameDropped, AnswerDropped, Acked, Naked, Again, RequestDropped}
-use Rattle.switch_event.specs.Config.{Config}
-use Rattle.switch_defs.specs.declared.Decision.{Decision}
-use Rattle.switch_defs.specs.declared.Decision.TheVariants.{Forward, Drop}
-use Rattle.switch_defs.specs.declared.Drop9.{Drop9}
-use Rattle.switch_defs.specs.declared.Drop9.TheVariants.{Runt, Giant, Control as IsControl, Reserved, Tagged, GroupSource, Down, Closed, Unauthorised}
-use Rattle.switch_defs.specs.Switch.{State, Sent, opening}
-use Rattle.switch_defs.specs.Switch.Sent.{ToHost}
-use Rattle.switch_defs.specs.Turn.{turn}
-use Rattle.switch_defs.specs.Decide.{decide}
-use Rattle.trace_defs.specs.Line.{Record}
-use Rattle.trace_defs.specs.Line.Record.{Control, Data}
+use Rattle.switch_event.specs.Sent.{Sent, ToHost, ToServer, ToClient}
+use Rattle.trace_defs.specs.Text.{dotted}
+use Rattle.switch_event.specs.declared.decision.Decision.{Decision}
+use Rattle.switch_event.specs.declared.decision.Decision.TheVariants.{Forward, Drop}
+use Rattle.switch_event.specs.declared.decision.Drop9.{Drop9}
+use Rattle.switch_event.specs.declared.decision.Drop9.TheVariants.{Runt, Giant, Control as IsControl, Reserved, Tagged, GroupSource, Down, Closed, Unauthorised}
 
 abbrev pub line_feed : List ℕ
 line_feed = 10 ∷ []
 
--- `f PORT OCTETS`
+-- the socket of a packet to the server, which is left out where it is the first
+abbrev pub socket_text : ℕ → List ℕ
+socket_text socket = if socket == 0 then [] else decimal socket ++ codes " "
+
+-- `f PORT OCTETS`, `r OCTETS` or `r SOCKET OCTETS`, `y IP PORT OCTETS`
 abbrev pub sent_line : Sent → List ℕ
-sent_line (ToHost port octets) = concat (codes "f " ∷ decimal port ∷ codes " " ∷ encode_lower octets ∷ line_feed ∷ [])
+sent_line (ToHost port octets) =
+    concat (codes "f " ∷ decimal port ∷ codes " " ∷ encode_lower octets ∷ line_feed ∷ [])
+sent_line (ToServer socket octets) = concat (codes "r " ∷ socket_text socket ∷ encode_lower octets ∷ line_feed ∷ [])
+sent_line (ToClient to octets) =
+    concat (
+    codes "y " ∷ dotted to.ip ∷ codes " " ∷ decimal to.port ∷ codes " " ∷ encode_lower octets ∷ line_feed ∷ []
+    )
 
 abbrev pub sent_lines : List Sent → List ℕ
-sent_lines [] = []
-sent_lines (sent ∷ rest) = sent_line sent ++ sent_lines rest
+sent_lines sent = flat_map sent_line sent
 
 -- the names of the lines at which a frame is dropped
 abbrev pub frame_drop : ℕ → List ℕ
@@ -84,7 +88,17 @@ outcome_text (RequestDropped line) = codes "drop " ++ request_drop line
 -- `c RECORD @LANE SERIAL OUTCOME`
 abbrev pub control_line : ℕ → ℕ → ℕ → Outcome → List ℕ
 control_line number lane serial outcome =
-    concat (codes "c " ∷ decimal number ∷ codes " @" ∷ decimal lane ∷ codes " " ∷ decimal serial ∷ codes " " ∷ outcome_text outcome ∷ line_feed ∷ [])
+    concat (
+    codes "c " ∷ decimal number ∷ codes " @" ∷ decimal lane ∷ codes " " ∷ decimal serial ∷ codes " "
+    ∷ outcome_text outcome ∷ line_feed ∷ []
+    )
+
+-- an outcome that an event can have: the line at which something is dropped is one that has a name
+abbrev pub can_come : Outcome → Bool
+can_come (FrameDropped line) = nat_lt 0 (length (frame_drop line))
+can_come (AnswerDropped line) = nat_lt 0 (length (answer_drop line))
+can_come (RequestDropped line) = nat_lt 0 (length (request_drop line))
+can_come other = true
 
 -- the block of a control record
 abbrev pub control_block : ℕ → ℕ → ℕ → Outcome → List Sent → List ℕ
@@ -101,11 +115,17 @@ drop_name Down = codes "down"
 drop_name Closed = codes "closed"
 drop_name Unauthorised = codes "unauthorised"
 
--- `d RECORD FRONT forward SESSION VLAN OCTETS`, with the frame that goes out, or `d RECORD FRONT drop NAME`
+-- `d RECORD FRONT drop NAME`, or `d RECORD FRONT forward SESSION VLAN OCTETS`, with the frame that goes out
 abbrev pub data_line : ℕ → ℕ → Decision → List ℕ → List ℕ
-data_line number front (Drop why) out = concat (codes "d " ∷ decimal number ∷ codes " " ∷ decimal front ∷ codes " drop " ∷ drop_name why ∷ line_feed ∷ [])
+data_line number front (Drop why) out =
+    concat (
+    codes "d " ∷ decimal number ∷ codes " " ∷ decimal front ∷ codes " drop " ∷ drop_name why ∷ line_feed ∷ []
+    )
 data_line number front (Forward session vlan) out =
-    concat (codes "d " ∷ decimal number ∷ codes " " ∷ decimal front ∷ codes " forward " ∷ decimal session ∷ codes " " ∷ decimal vlan ∷ codes " " ∷ encode_lower out ∷ line_feed ∷ [])
+    concat (
+    codes "d " ∷ decimal number ∷ codes " " ∷ decimal front ∷ codes " forward " ∷ decimal session ∷ codes " "
+    ∷ decimal vlan ∷ codes " " ∷ encode_lower out ∷ line_feed ∷ []
+    )
 
 -- the frame that goes out
 abbrev pub forwarded : Decision → List ℕ → List ℕ
@@ -115,33 +135,3 @@ forwarded (Forward session vlan) frame = tagged vlan frame
 -- the block of a data record
 abbrev pub data_block : ℕ → ℕ → Decision → List ℕ → List ℕ
 data_block number front decision frame = data_line number front decision (forwarded decision frame)
-
--- how far the output is: the state, the number of the next record, and the number of control records before it
-pub record Place : Type 0 where
-  pub state : State
-  pub number : ℕ
-  pub serial : ℕ
-
-abbrev pub first_place : Config → Place
-first_place config = record { state = opening config; number = 1; serial = 0 }
-
-abbrev pub block : Place → Record → List ℕ
-block at (Control lane event) = control_block at.number 1 at.serial (turn at.state event).outcome (turn at.state event).sent
-block at (Data port octets) = data_block at.number at.serial (decide at.state port octets) octets
-
-abbrev pub next_place : Place → Record → Place
-next_place at (Control lane event) = record { state = (turn at.state event).state; number = at.number + 1; serial = at.serial + 1 }
-next_place at (Data port octets) = record at { number = at.number + 1 }
-
-abbrev pub blocks : Place → List Record → List ℕ
-blocks at [] = []
-blocks at (r ∷ rest) = block at r ++ blocks (next_place at r) rest
-
-abbrev pub place_after : Place → List Record → Place
-place_after at [] = at
-place_after at (r ∷ rest) = place_after (next_place at r) rest
-
--- the output of a run on one thread: each control record has lane 1 and as its serial the number of control records
--- before it, each data record has that number as its front
-abbrev pub plain : Config → List (List Record) → List ℕ
-plain config phases = blocks (first_place config) (flat_map (λ phase. phase) phases)

@@ -2,7 +2,7 @@
 use Rattle.std.specs.Prelude.{ℕ, ◌+◌, ◌&&◌, nat_le, nat_lt, Bool, false, true, not, if◌then◌else◌, List, [], ◌∷◌, ◌++◌, length, take, Result, Ok, Err}
 use Rattle.wire_defs.specs.Text.{ended_lines, open_line, last_line}
 use Rattle.switch_event.specs.Config.{Config}
-use Rattle.trace_defs.specs.Reason.{missing_server}
+use Rattle.trace_defs.specs.declared.reason.TheConstants.{MISSING}
 use Rattle.trace_defs.specs.Line.{Record, Line, line_of}
 use Rattle.trace_defs.specs.Line.Record.{Control, Data}
 use Rattle.trace_defs.specs.Line.Line.{Blank, Begin, Sync, Setting, Entry}
@@ -91,4 +91,4 @@ progress_of (Stopped p stop) = p
 abbrev pub reason_of : Reading → ℕ
 reason_of (Stopped p (Refused reason)) = reason
 reason_of (Stopped p Full) = 0
-reason_of (Going p) = missing_server
+reason_of (Going p) = MISSING

@@ -7,12 +7,12 @@ use Rattle.hex.specs.declared.error.FromHexError.{FromHexError}
 use Rattle.machine_vars.specs.declared.control.Control.{Control as PortControl}
 use Rattle.machine_vars.specs.declared.control.Control.TheVariants.{Auto, ForceAuth, ForceUnauth}
 use Rattle.wire_defs.specs.Number.{number_in}
-use Rattle.trace_defs.specs.declared.Keyword.{Keyword}
-use Rattle.trace_defs.specs.declared.Keyword.TheVariants.{Setting, Record, Sync}
-use Rattle.trace_defs.specs.declared.SettingWord.TheVariants.{Bridge, Nas, Server, Client, Port, Set, Clock, Seed, Begin}
-use Rattle.trace_defs.specs.declared.RecordWord.TheVariants.{Frame, Radius, Dyn, Tick, Link, Control}
-use Rattle.trace_defs.specs.declared.Timing.{Timing}
-use Rattle.trace_defs.specs.declared.Timing.TheVariants.{QuietPeriod, ServerTimeout, ReauthMax, ReauthPeriod, Reauth, DynWindow}
+use Rattle.trace_defs.specs.declared.keyword.Keyword.{Keyword}
+use Rattle.trace_defs.specs.declared.keyword.Keyword.TheVariants.{Setting, Record, Sync}
+use Rattle.trace_defs.specs.declared.keyword.SettingWord.TheVariants.{Bridge, Nas, Server, Client, Port, Restricted, Guest, Set, Clock, Seed, Begin}
+use Rattle.trace_defs.specs.declared.keyword.RecordWord.TheVariants.{Frame, Radius, Dyn, Tick, Link, Control}
+use Rattle.trace_defs.specs.declared.keyword.Timing.{Timing}
+use Rattle.trace_defs.specs.declared.keyword.Timing.TheVariants.{QuietPeriod, ServerTimeout, ReauthMax, ReauthPeriod, Reauth, GuestWait, DynWindow, RequireMa}
 
 -- the first word of a line
 abbrev pub setting_of : List ℕ → Option Keyword
@@ -22,6 +22,8 @@ setting_of word =
     else if bytes_eq word (codes "server") then Some (Setting Server)
     else if bytes_eq word (codes "client") then Some (Setting Client)
     else if bytes_eq word (codes "port") then Some (Setting Port)
+    else if bytes_eq word (codes "restricted") then Some (Setting Restricted)
+    else if bytes_eq word (codes "guest") then Some (Setting Guest)
     else if bytes_eq word (codes "set") then Some (Setting Set)
     else if bytes_eq word (codes "clock") then Some (Setting Clock)
     else if bytes_eq word (codes "seed") then Some (Setting Seed)
@@ -47,7 +49,9 @@ timing_of word =
     else if bytes_eq word (codes "reauth-max") then Some ReauthMax
     else if bytes_eq word (codes "reauth-period") then Some ReauthPeriod
     else if bytes_eq word (codes "reauth") then Some Reauth
+    else if bytes_eq word (codes "guest-wait") then Some GuestWait
     else if bytes_eq word (codes "dyn-window") then Some DynWindow
+    else if bytes_eq word (codes "require-ma") then Some RequireMa
     else None
 
 -- the lane that a word marks
@@ -70,6 +74,11 @@ two_of rest = None
 abbrev pub three_of : List (List ℕ) → Option (List ℕ × List ℕ × List ℕ)
 three_of (first ∷ second ∷ third ∷ []) = Some (first, second, third)
 three_of rest = None
+
+-- the socket and the octets of `radius`, where the first socket may be left out
+abbrev pub socket_of : List (List ℕ) → Option (List ℕ × List ℕ)
+socket_of (octets ∷ []) = Some (codes "0", octets)
+socket_of words = two_of words
 
 -- an address of IPv4: four numbers with dots
 abbrev pub four_of : List (List ℕ) → Option (List ℕ)

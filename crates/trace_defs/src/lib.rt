@@ -1,71 +1,21 @@
 //! A trace as definitions: its lines, the reasons to refuse one, its phases and what is printed for it. They stand in
-//! specs/; here are the words that a line begins with.
+//! specs/; here are the words that a line begins with, the limits, and what a line is once it is read.
 #![tactic(auto)]
 
-/// The first word of a line that stands before `begin`, or `begin`.
-#[derive(Clone, Copy, Debug, PartialEq, Eq)]
-pub enum SettingWord {
-    /// `bridge`
-    Bridge,
-    /// `nas`
-    Nas,
-    /// `server`
-    Server,
-    /// `client`
-    Client,
-    /// `port`
-    Port,
-    /// `set`
-    Set,
-    /// `clock`
-    Clock,
-    /// `seed`
-    Seed,
-    /// `begin`
-    Begin,
-}
+mod given;
+mod keyword;
+mod limit;
+mod line;
+mod reason;
 
-/// The word behind `set`.
-#[derive(Clone, Copy, Debug, PartialEq, Eq)]
-pub enum Timing {
-    /// `quiet-period`
-    QuietPeriod,
-    /// `server-timeout`
-    ServerTimeout,
-    /// `reauth-max`
-    ReauthMax,
-    /// `reauth-period`
-    ReauthPeriod,
-    /// `reauth`
-    Reauth,
-    /// `dyn-window`
-    DynWindow,
-}
-
-/// The first word of a record.
-#[derive(Clone, Copy, Debug, PartialEq, Eq)]
-pub enum RecordWord {
-    /// `frame`
-    Frame,
-    /// `radius`
-    Radius,
-    /// `dyn`
-    Dyn,
-    /// `tick`
-    Tick,
-    /// `link`
-    Link,
-    /// `control`
-    Control,
-}
-
-/// The first word of a line.
-#[derive(Clone, Copy, Debug, PartialEq, Eq)]
-pub enum Keyword {
-    /// One that stands before `begin`, or `begin`.
-    Setting(SettingWord),
-    /// One of a record.
-    Record(RecordWord),
-    /// `sync`
-    Sync,
-}
+pub use event_record::{Octets, Record};
+pub use given::{
+    BRIDGE, CLOCK, DYN_WINDOW, GUEST_WAIT, NAS, QUIET_PERIOD, REAUTH, REAUTH_MAX, REAUTH_PERIOD,
+    REQUIRE_MA, SEED, SERVER, SERVER_TIMEOUT,
+};
+pub use keyword::{Keyword, OtherVlan, RecordWord, SettingWord, Timing};
+pub use limit::{MOST_CLIENTS, MOST_DATAGRAM_OCTETS, MOST_FRAME_OCTETS, MOST_LINE_OCTETS};
+pub use line::Line;
+pub use reason::{
+    COUNT, HEX, LANE, LANED, LONG, MISSING, NAME, NUMBER, OCTET, PLACE, PORT, TWICE, UNBUILT, WORD,
+};

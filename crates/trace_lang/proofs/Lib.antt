@@ -1,5 +1,4 @@
-mod PortLemmas
-mod PrintLemmas
 mod WordLemmas
 mod HexLemmas
-mod TextLemmas
+mod VlanLemmas
+mod Valid

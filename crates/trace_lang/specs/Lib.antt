@@ -1,4 +1,3 @@
 pub mod Words
-pub mod Event
+pub mod Parts
 pub mod Meaning
-pub mod Printing

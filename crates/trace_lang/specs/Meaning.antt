@@ -1,15 +1,15 @@
 -- What the types of this crate mean, and what its readers answer.
 use Rattle.std.specs.Prelude.{◌≡◌, ℕ, Bool, true, false, List, Option, Some, None, Result, Ok, Err, ⊤}
-use Rattle.switch_event.specs.Config.{Config}
-use Rattle.trace_defs.specs.Reason.{wrong_hex}
-use Rattle.trace_defs.specs.Line.{Line as Meaning}
+use Rattle.switch_event.specs.Config.{Config, is_valid}
+use Rattle.trace_defs.specs.declared.reason.TheConstants.{HEX, TWICE}
+use Rattle.trace_defs.specs.Line.{Line as Meaning, was_given, with_given}
 use Rattle.trace_defs.specs.Line.Line.{Blank as IsBlank, Begin as IsBegin, Sync as IsSync, Setting as IsSetting, Entry}
 use Rattle.trace_defs.specs.Line.Record.{Control as ControlEntry, Data as DataEntry}
-use Rattle.trace_lang.specs.declared.line.Line.{Line}
-use Rattle.trace_lang.specs.declared.line.Line.TheVariants.{Blank, Begin, Sync, Setting, Control, Data}
+use Rattle.trace_defs.specs.declared.line.Line.{Line}
+use Rattle.trace_defs.specs.declared.line.Line.TheVariants.{Blank, Begin, Sync, Setting, Control, Data}
 use Rattle.trace_lang.specs.declared.line.LineErr.{LineErr}
 use Rattle.trace_lang.specs.declared.line.LineErr.TheVariants.{Bad, NoMemory}
-use Rattle.trace_lang.specs.Event.{event_of}
+use Rattle.event_record.specs.Record.{event_of}
 
 -- a line, by the settings after it
 abbrev pub meaning : Config → ℕ → Line → Meaning
@@ -47,10 +47,16 @@ Sets wanted old given new given' (Ok (Data port octets)) = (wanted ≡ Ok (Entry
 Sets wanted old given new given' (Err (Bad why)) = (wanted ≡ Err why) × AreKept old given new given'
 Sets wanted old given new given' (Err NoMemory) = AreKept old given new given'
 
+-- a setting that is given once is noted, or was given before
+abbrev pub Notes : ℕ → (old new : ℕ) → Result ⊤ LineErr → Type 0
+Notes k old new (Ok done) = (was_given k old ≡ false) × (new ≡ with_given k old)
+Notes k old new (Err (Bad why)) = (was_given k old ≡ true) × (why ≡ TWICE) × (new ≡ old)
+Notes k old new (Err NoMemory) = ⊥
+
 -- octets that a word writes
 abbrev pub Decodes : Option (List ℕ) → Result (List ℕ) LineErr → Type 0
 Decodes wanted (Ok octets) = wanted ≡ Some octets
-Decodes wanted (Err (Bad why)) = (wanted ≡ None) × (why ≡ wrong_hex)
+Decodes wanted (Err (Bad why)) = (wanted ≡ None) × (why ≡ HEX)
 Decodes wanted (Err NoMemory) = ⊤
 
 -- settings and `begin` stand before `begin`, records and `sync` after it
@@ -61,3 +67,8 @@ IsInPlace begun Setting = begun ≡ false
 IsInPlace begun Sync = begun ≡ true
 IsInPlace begun (Control lane what) = begun ≡ true
 IsInPlace begun (Data port octets) = begun ≡ true
+
+-- the settings are valid where they end
+abbrev pub IsValidAtBegin : Config → Line → Type 0
+IsValidAtBegin config Begin = is_valid config ≡ true
+IsValidAtBegin config line = ⊤

@@ -1,29 +1,20 @@
-//! The trace language: its settings, lines and records, and the blocks that are printed.
+//! The trace language: what a line means, and the lines of a text that comes in pieces.
 #![tactic(auto)]
 
-mod event;
+mod head;
 mod keyword;
 mod line;
 mod lines;
 #[cfg(test)]
 mod lines_tests;
-mod octets;
-mod print;
-mod reason;
 mod records;
 mod settings;
-mod text;
+#[cfg(test)]
+mod tests;
 mod values;
 mod words;
 
-pub use event::Record;
-pub use line::{Line, LineErr, read_line};
-pub use lines::Lines;
-pub use octets::Octets;
-pub use print::{Decided, print_control, print_data};
-pub use switch_defs::{Decision, Drop9};
-pub use switch_event::{Config, Event, Outcome, PortConf};
-pub use text::{print_config, print_line};
-
-#[cfg(test)]
-mod tests;
+pub use line::{LineErr, read_line};
+pub use lines::{Lines, lines_of};
+pub use switch_event::{Config, Event, PortConf};
+pub use trace_defs::{Line, Octets, Record};

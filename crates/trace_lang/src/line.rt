@@ -1,33 +1,31 @@
 // A line of a trace.
-ghost use Rattle.std.specs.Prelude.{◌≡◌, IfOk, None, Some, ◌∷◌};
+ghost use Rattle.std.specs.Prelude.{◌≡◌, ℕ, List, IfOk, true, ◌∷◌};
 ghost use Rattle.std.specs.List.{list_all};
 ghost use Rattle.std.specs.Str.Lines.{strip_carriage_return};
 ghost use Rattle.wire_defs.specs.Text.{words};
-ghost use Rattle.switch_event.specs.Config.{ArePorts, HaveVlans};
-ghost use Rattle.trace_defs.specs.Line.{is_printable, is_comment as is_comment_lem, words_line, first_line, laned_line, known_line, placed_line, line_of};
-ghost use Rattle.trace_lang.specs.Meaning.{Sets, IsInPlace};
+ghost use Rattle.switch_event.specs.Config.{are_ports, empty};
+ghost use Rattle.trace_defs.specs.Line as defined;
+ghost use Rattle.trace_defs.specs.Trace.{Progress, read_lines, start};
+ghost use Rattle.trace_defs.specs.Trace.Reading.{Going};
+ghost use Rattle.trace_lang.specs.Meaning.{Sets, IsInPlace, IsValidAtBegin};
 ghost use Rattle.trace_lang.specs.declared.line.LineErr.TheVariants.{NoMemory};
 
-use crate::event::Record;
-use crate::keyword::{is_known, is_mark, keyword_of, lane_of};
-use crate::octets::Octets;
-use crate::reason::{LANE, LONG, OCTET, PLACE, WORD};
+use crate::head::head_of;
 use crate::records::{read_record, read_sync};
 use crate::settings::read_setting;
 use crate::words::first_word;
 use std::alloc::{AllocError, Global};
 use switch_event::Config;
-use trace_defs::Keyword;
+use trace_defs::{Keyword, LANE, LONG, Line, MOST_LINE_OCTETS, OCTET, PLACE, WORD};
 
 /// Why a line is not read.
-#[derive(Clone, Copy, Debug, PartialEq, Eq)]
+#[derive(Clone, Copy, Debug, PartialEq, Eq, thiserror::Error)]
 pub enum LineErr {
-    /// It is refused for this reason: 1 it is too long, 2 it has an octet that is no text, 3 its lane is none or stands
-    /// before no control event, 4 its word is unknown, 5 its place is wrong, 6 it has too few words or too many, 7 to 9 a word
-    /// writes no number or address, no octets, or none of the names, each in its range, 10 its port is not configured, 11 it
-    /// is a data frame with a lane, 12 what it sets was given before, 13 `server` is missing, 14 this version does not do it.
+    /// It is refused for the first of the reasons of `trace_defs` that applies, `LONG` to `UNBUILT`.
+    #[error("the line is refused for reason {why}")]
     Bad { why: u8 },
     /// There is no memory for its octets.
+    #[error("out of memory")]
     NoMemory,
 }
 
@@ -39,28 +37,9 @@ impl From<AllocError> for LineErr {
     }
 }
 
-/// What a line means.
-#[derive(Drop)]
-pub enum Line {
-    /// Nothing: a comment, or no word.
-    Blank,
-    /// The settings end.
-    Begin,
-    /// The phase ends.
-    Sync,
-    /// A setting, which is put into the settings.
-    Setting,
-    /// A control event in a lane, 1 to 3.
-    Control { lane: u8, what: Record },
-    /// A data frame on a port.
-    Data { port: u8, octets: Octets },
-}
-
-const MOST_LINE_OCTETS: usize = 10_240;
-
-/// What a line means, without its line feed. A setting is put into `c` and noted in `given`, where bit k stands for
-/// setting k, counted from 0 in the order in which settings are printed; after any other line, and after a refusal, both
-/// are as before. `begun` tells whether the settings are ended.
+/// What a line means, without its line feed. A setting is put into `c` and noted in `given`, by its bit (`BRIDGE` to
+/// `REQUIRE_MA` of `trace_defs`); after any other line, and after a refusal, both are as before. `begun` tells whether
+/// the settings are ended. Settings that were read are valid at `begin`.
 pub fn read_line(
     alloc: Global,
     c: &mut Config,
@@ -68,10 +47,26 @@ pub fn read_line(
     begun: bool,
     line: &[u8],
 ) -> Result<Line, LineErr>
-    requires ports { ArePorts c.old.ports }
-    ensures reads { Sets (line_of c.old given.old begun line.now) c.old given.old c.new given.new result }
-    ensures ports { ArePorts c.new.ports }
-    ensures vlans { HaveVlans c.old.ports → HaveVlans c.new.ports }
+    requires ports { are_ports c.old.ports ≡ true }
+    ensures reads { Sets (defined.line_of c.old given.old begun line.now) c.old given.old c.new given.new result }
+    ensures ports { are_ports c.new.ports ≡ true }
+    ensures place { IfOk result (IsInPlace begun) }
+    ensures valid { (room : ℕ) (lines : List (List ℕ)) (p : Progress) → read_lines room (start empty) lines ≡ Going p → p.config ≡ c.old → p.given ≡ given.old
+        → IfOk result (IsValidAtBegin c.new) }
+{
+    read_any(alloc, c, given, begun, line)
+}
+
+fn read_any(
+    alloc: Global,
+    c: &mut Config,
+    given: &mut u32,
+    begun: bool,
+    line: &[u8],
+) -> Result<Line, LineErr>
+    requires ports { are_ports c.old.ports ≡ true }
+    ensures reads { Sets (defined.line_of c.old given.old begun line.now) c.old given.old c.new given.new result }
+    ensures ports { are_ports c.new.ports ≡ true }
     ensures place { IfOk result (IsInPlace begun) }
 {
     let text = without_return(line);
@@ -93,10 +88,9 @@ fn read_words(
     word: &[u8],
     rest: &[u8],
 ) -> Result<Line, LineErr>
-    requires ports { ArePorts c.old.ports }
-    ensures reads { Sets (words_line c.old given.old begun text.now (word.now ∷ words rest.now)) c.old given.old c.new given.new result }
-    ensures ports { ArePorts c.new.ports }
-    ensures vlans { HaveVlans c.old.ports → HaveVlans c.new.ports }
+    requires ports { are_ports c.old.ports ≡ true }
+    ensures reads { Sets (defined.words_line c.old given.old begun text.now (word.now ∷ words rest.now)) c.old given.old c.new given.new result }
+    ensures ports { are_ports c.new.ports ≡ true }
     ensures place { IfOk result (IsInPlace begun) }
 {
     if text.len() > MOST_LINE_OCTETS {
@@ -105,101 +99,32 @@ fn read_words(
     if !has_printable_only(text) {
         return Err(LineErr::Bad { why: OCTET });
     }
-    read_first(alloc, c, given, begun, word, rest)
-}
-
-fn read_first(
-    alloc: Global,
-    c: &mut Config,
-    given: &mut u32,
-    begun: bool,
-    word: &[u8],
-    rest: &[u8],
-) -> Result<Line, LineErr>
-    requires ports { ArePorts c.old.ports }
-    ensures reads { Sets (first_line c.old given.old begun word.now (words rest.now)) c.old given.old c.new given.new result }
-    ensures ports { ArePorts c.new.ports }
-    ensures vlans { HaveVlans c.old.ports → HaveVlans c.new.ports }
-    ensures place { IfOk result (IsInPlace begun) }
-{
-    if is_mark(word) {
-        return match lane_of(word) {
-            Some(lane) => read_laned(alloc, c, given, begun, lane, rest),
-            None => Err(LineErr::Bad { why: LANE }),
-        };
+    let head = head_of(word, rest);
+    if head.has_wrong_lane() {
+        return Err(LineErr::Bad { why: LANE });
     }
-    match keyword_of(word) {
-        Some(keyword) => read_keyword(alloc, c, given, begun, None, keyword, rest),
+    if head.is_unknown() {
+        return Err(LineErr::Bad { why: WORD });
+    }
+    if head.is_misplaced(begun) {
+        return Err(LineErr::Bad { why: PLACE });
+    }
+    match head.keyword {
+        Some(Keyword::Setting(word)) => read_setting(c, given, word, head.rest),
+        Some(Keyword::Record(word)) => read_record(alloc, c, head.lane, word, head.rest),
+        Some(Keyword::Sync) => read_sync(head.rest),
         None => Err(LineErr::Bad { why: WORD }),
     }
 }
 
-// Behind the mark of a lane stands the word of a control event.
-fn read_laned(
-    alloc: Global,
-    c: &mut Config,
-    given: &mut u32,
-    begun: bool,
-    lane: u8,
-    rest: &[u8],
-) -> Result<Line, LineErr>
-    requires ports { ArePorts c.old.ports }
-    ensures reads { Sets (laned_line c.old given.old begun lane (words rest.now)) c.old given.old c.new given.new result }
-    ensures ports { ArePorts c.new.ports }
-    ensures vlans { HaveVlans c.old.ports → HaveVlans c.new.ports }
-    ensures place { IfOk result (IsInPlace begun) }
-{
-    let Some((word, rest)) = first_word(rest) else {
-        return Err(LineErr::Bad { why: LANE });
-    };
-    match keyword_of(word) {
-        Some(Keyword::Record(word)) => read_keyword(
-            alloc,
-            c,
-            given,
-            begun,
-            Some(lane),
-            Keyword::Record(word),
-            rest,
-        ),
-        _ => Err(LineErr::Bad { why: LANE }),
-    }
-}
-
-fn read_keyword(
-    alloc: Global,
-    c: &mut Config,
-    given: &mut u32,
-    begun: bool,
-    lane: Option<u8>,
-    keyword: Keyword,
-    rest: &[u8],
-) -> Result<Line, LineErr>
-    requires ports { ArePorts c.old.ports }
-    ensures reads { Sets (known_line c.old given.old begun lane keyword (words rest.now)) c.old given.old c.new given.new result }
-    ensures ports { ArePorts c.new.ports }
-    ensures vlans { HaveVlans c.old.ports → HaveVlans c.new.ports }
-    ensures place { IfOk result (IsInPlace begun) }
-{
-    if !is_known(keyword, rest) {
-        return Err(LineErr::Bad { why: WORD });
-    }
-    match (keyword, begun) {
-        (Keyword::Setting(word), false) => read_setting(c, given, word, rest),
-        (Keyword::Record(word), true) => read_record(alloc, c, lane, word, rest),
-        (Keyword::Sync, true) => read_sync(rest),
-        _ => Err(LineErr::Bad { why: PLACE }),
-    }
-}
-
 fn is_comment(text: &[u8]) -> bool
-    ensures { result ≡ is_comment_lem text.now }
+    ensures { result ≡ defined.is_comment text.now }
 {
     matches!(text, [b'#', ..])
 }
 
 fn has_printable_only(text: &[u8]) -> bool
-    ensures { result ≡ list_all is_printable text.now }
+    ensures { result ≡ list_all defined.is_printable text.now }
 {
     text.iter().all(|octet| *octet >= 32 && *octet <= 126)
 }

@@ -1,13 +1,13 @@
 // The lines of a trace that comes in pieces.
-ghost use Rattle.std.specs.Prelude.{◌≡◌, ℕ, List, ◌<◌, ◌≤◌, ◌∷◌, ◌++◌, [], false, Bool, IfOk, IfSome, is_some, length, position};
-ghost use Rattle.std.specs.List.{before_first};
+ghost use Rattle.std.specs.Prelude.{◌≡◌, ℕ, List, ◌<◌, ◌≤◌, ◌∷◌, ◌++◌, [], false, Bool, IfOk, OnOk, IfSome, is_some, length, position};
+ghost use Rattle.std.specs.List.{before_first, flat_map};
 ghost use Rattle.switch_event.specs.Config.{Config};
-ghost use Rattle.trace_defs.specs.Kept.{kept_of, is_line_feed, len_to_feed};
+ghost use Rattle.trace_defs.specs.Alike.{ReadAlike, AreReadAlike, IsFed, all_lines, is_line_feed, len_to_feed, stand_in_with};
 ghost use Rattle.trace_defs.specs.Line.{line_of};
-ghost use Rattle.trace_defs.specs.Kept.{stand_in_with};
 
 use std::alloc::{AllocError, Global};
 use std::marker::Model;
+use trace_defs::Octets;
 
 // A line that may be read has at most 10,240 octets and a carriage return. One octet more stands for the rest of a longer
 // one.
@@ -24,7 +24,7 @@ pub struct Lines {
 
 impl Model for Lines {
     ghost use Rattle.std.specs.Prelude.{◌≤◌, length, vec_capacity};
-    ghost use Rattle.trace_defs.specs.Kept.{Held};
+    ghost use Rattle.trace_defs.specs.Alike.{Held};
 
     ghost Value = { Held };
 
@@ -49,7 +49,7 @@ impl Lines {
     #[inline]
     pub fn feed(&mut self, piece: &[u8]) -> Option<usize>
         requires { self.old.ended ≡ false }
-        ensures text { (line : List ℕ) → self.old.text ≡ kept_of line → self.new.text ≡ kept_of (line ++ before_first is_line_feed piece.now) }
+        ensures text { (line : List ℕ) → ReadAlike self.old.text line → ReadAlike self.new.text (line ++ before_first is_line_feed piece.now) }
         ensures ended { self.new.ended ≡ is_some result }
         ensures count { result ≡ len_to_feed piece.now }
         ensures within { IfSome result (λ n. (0 < n) × (n ≤ length piece.now)) }
@@ -70,7 +70,7 @@ impl Lines {
     /// What is kept of the line, without its line feed. It is read as the whole line.
     pub fn line(&self) -> &[u8]
         ensures value { result.now ≡ self.now.text }
-        ensures reads { (config : Config) (given : ℕ) (begun : Bool) (line : List ℕ) → self.now.text ≡ kept_of line
+        ensures reads { (config : Config) (given : ℕ) (begun : Bool) (line : List ℕ) → ReadAlike self.now.text line
             → line_of config given begun result.now ≡ line_of config given begun line }
     {
         &self.text
@@ -84,8 +84,29 @@ impl Lines {
         self.ended = false;
     }
 
+    /// Takes a whole piece of text, and appends what is kept of each line that the piece ends. The last line must not have
+    /// ended. `AllocError`: there is no memory for a line; what was taken by then stays.
+    pub fn feed_all(
+        &mut self,
+        alloc: Global,
+        piece: &[u8],
+        seen: &mut Vec<Octets>,
+    ) -> Result<(), AllocError>
+        requires { self.old.ended ≡ false }
+        ensures begun { OnOk result (self.new.ended ≡ false) }
+        ensures lines { (fed : List ℕ) → IsFed fed seen.old.items self.old.text → OnOk result (IsFed (fed ++ piece.now) seen.new.items self.new.text) }
+    {
+        let mut rest = piece;
+        while let Some(taken) = self.feed(rest) {
+            seen.push(Octets::of(alloc, self.line())?)?;
+            self.next();
+            rest = &rest[taken..];
+        }
+        Ok(())
+    }
+
     fn append(&mut self, octets: &[u8])
-        ensures text { (line : List ℕ) → self.old.text ≡ kept_of line → self.new.text ≡ kept_of (line ++ octets.now) }
+        ensures text { (line : List ℕ) → ReadAlike self.old.text line → ReadAlike self.new.text (line ++ octets.now) }
         ensures ended { self.new.ended ≡ self.old.ended }
     {
         for octet in octets {
@@ -95,7 +116,7 @@ impl Lines {
 
     // Where there is no room, the last octet comes to stand for one more.
     fn push(&mut self, octet: u8)
-        ensures text { (line : List ℕ) → self.old.text ≡ kept_of line → self.new.text ≡ kept_of (line ++ octet ∷ []) }
+        ensures text { (line : List ℕ) → ReadAlike self.old.text line → ReadAlike self.new.text (line ++ octet ∷ []) }
         ensures ended { self.new.ended ≡ self.old.ended }
     {
         if self.text.len() < MOST_KEPT {
@@ -104,6 +125,23 @@ impl Lines {
             self.text[MOST_KEPT - 1] = standing_for(self.text[MOST_KEPT - 1], octet);
         }
     }
+}
+
+/// What is kept of each line of a text that comes in pieces, however it is cut: `read_line` answers for each what it answers
+/// for the line. What follows the last line feed is a line where it holds an octet. `AllocError`: there is no memory.
+pub fn lines_of(alloc: Global, pieces: &[&[u8]]) -> Result<Vec<Octets>, AllocError>
+    ensures { IfOk result (λ lines. AreReadAlike lines.items (all_lines (flat_map (λ piece. piece.now) pieces.now))) }
+{
+    let mut lines = Lines::open(alloc)?;
+    let mut seen = Vec::new(alloc);
+    for piece in pieces {
+        lines.feed_all(alloc, piece, &mut seen)?;
+    }
+    if lines.line().is_empty() {
+        return Ok(seen);
+    }
+    seen.push(Octets::of(alloc, lines.line())?)?;
+    Ok(seen)
 }
 
 fn feed_at(piece: &[u8]) -> Option<usize>

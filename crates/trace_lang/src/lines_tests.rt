@@ -1,8 +1,5 @@
 // Long lines, and texts that come in pieces, by what read_line answers.
-ghost use Rattle.std.specs.Prelude.{◌≡◌, ℕ, List, ◌++◌, false, OnOk};
-ghost use Rattle.trace_defs.specs.Kept.{HasKept};
-
-use crate::{Config, Line, LineErr, Lines, Octets, read_line};
+use crate::{Config, Line, LineErr, Lines, lines_of, read_line};
 use std::alloc::{AllocError, Global};
 use std::test::Fail;
 
@@ -89,26 +86,6 @@ fn a_long_line_is_read_as_what_is_kept_of_it(rt: HostRuntime) -> Result<(), Fail
     Ok(())
 }
 
-// Feeds a piece to its end, and appends what is kept of each line that it ends.
-fn feed_all(
-    alloc: Global,
-    lines: &mut Lines,
-    piece: &[u8],
-    seen: &mut Vec<Octets>,
-) -> Result<(), AllocError>
-    requires { lines.old.ended ≡ false }
-    ensures begun { OnOk result (lines.new.ended ≡ false) }
-    ensures kept { (fed : List ℕ) → HasKept fed seen.old.items lines.old.text → OnOk result (HasKept (fed ++ piece.now) seen.new.items lines.new.text) }
-{
-    let mut rest = piece;
-    while let Some(taken) = lines.feed(rest) {
-        seen.push(Octets::of(alloc, lines.line())?)?;
-        lines.next();
-        rest = &rest[taken..];
-    }
-    Ok(())
-}
-
 #[test]
 fn pieces_of_any_size_give_the_same_lines(rt: HostRuntime) -> Result<(), Fail> {
     let mut text = Vec::new(rt.alloc());
@@ -118,20 +95,20 @@ fn pieces_of_any_size_give_the_same_lines(rt: HostRuntime) -> Result<(), Fail> {
     }
     text.extend_from_slice(b"sync")?;
     for size in [1, 2, 7, 4096, 1_000_000] {
-        let mut lines = Lines::open(rt.alloc())?;
-        let mut seen = Vec::new(rt.alloc());
+        let mut pieces: Vec<&[u8]> = Vec::new(rt.alloc());
         for piece in text.chunks(size) {
-            feed_all(rt.alloc(), &mut lines, piece, &mut seen)?;
+            pieces.push(piece)?;
         }
-        assert_eq!(rt; seen.len(), ROWS.len());
-        for (line, (first, _, count, last, wanted)) in seen.iter().zip(ROWS) {
+        let lines = lines_of(rt.alloc(), &pieces)?;
+        assert_eq!(rt; lines.len(), ROWS.len() + 1);
+        for (line, (first, _, count, last, wanted)) in lines.iter().zip(ROWS) {
             assert_eq!(rt;
                 answer_to(rt.alloc(), line.as_slice()),
                 wanted,
                 "at {first}{count}{last}"
             );
         }
-        assert_eq!(rt; lines.line(), b"sync".as_slice());
+        assert_eq!(rt; lines[ROWS.len()].as_slice(), b"sync".as_slice());
     }
     Ok(())
 }

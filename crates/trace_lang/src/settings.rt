@@ -1,51 +1,25 @@
 // The settings of a trace.
-ghost use Rattle.std.specs.Prelude.{◌≡◌, IfOk, false, Some, Option, List, ℕ};
+ghost use Rattle.std.specs.Prelude.{◌≡◌, ◌<◌, IfOk, false, true};
 ghost use Rattle.wire_defs.specs.Text.{words};
-ghost use Rattle.switch_event.specs.Config.{ArePorts, HaveVlans};
-ghost use Rattle.trace_defs.specs.Reason.{wrong_count};
-ghost use Rattle.trace_defs.specs.Word.{one_of, two_of, three_of};
-ghost use Rattle.trace_defs.specs.Line.{alone, needs, setting_line, bridge_line, nas_line, server_line, client_line, add_client as add_client_lem, port_line, set_line, timing_line, clock_line, seed_line, begin_line};
-ghost use Rattle.trace_defs.specs.declared.Timing.TheVariants.{QuietPeriod, ServerTimeout, ReauthMax, ReauthPeriod, Reauth, DynWindow};
-ghost use Rattle.trace_lang.specs.Meaning.{Means, Sets, IsInPlace};
+ghost use Rattle.switch_event.specs.Config.{are_ports};
+ghost use Rattle.trace_defs.specs.Line as defined;
+ghost use Rattle.trace_defs.specs.declared.keyword.Timing.TheVariants.{QuietPeriod, ServerTimeout, ReauthMax, ReauthPeriod, Reauth, GuestWait, DynWindow, RequireMa};
+ghost use Rattle.trace_lang.specs.Meaning.{Means, Notes, Sets, IsInPlace};
 
 use crate::keyword::timing_of;
-use crate::line::{Line, LineErr};
-use crate::reason::{COUNT, HEX, MISSING, NAME, NUMBER, TWICE, WORD};
+use crate::line::LineErr;
 use crate::values::{
     control_choice, ip_of, name_of, number_of, port_of, secret_of, six_octets, switch_choice,
     thirty_two_octets, udp_port_of, vlan_of,
 };
 use crate::words::{first_word, one_word, three_words, two_words};
-use arrayvec::ArrayVec;
 use switch_event::{Client, Config, Nas, PortConf};
-use trace_defs::{SettingWord, Timing};
+use trace_defs::{
+    BRIDGE, CLOCK, COUNT, DYN_WINDOW, GUEST_WAIT, HEX, Line, MISSING, MOST_CLIENTS, NAME, NAS,
+    NUMBER, OtherVlan, PORT, QUIET_PERIOD, REAUTH, REAUTH_MAX, REAUTH_PERIOD, REQUIRE_MA, SEED,
+    SERVER, SERVER_TIMEOUT, SettingWord, TWICE, Timing, WORD,
+};
 use wire_core::{Addr, Mac, decimal};
-
-// The settings that are given once, each a bit, in the order in which they are printed.
-
-const BRIDGE: u32 = 1;
-
-const NAS: u32 = 2;
-
-const SERVER: u32 = 4;
-
-const QUIET_PERIOD: u32 = 8;
-
-const SERVER_TIMEOUT: u32 = 16;
-
-const REAUTH_MAX: u32 = 32;
-
-const REAUTH_PERIOD: u32 = 64;
-
-const REAUTH: u32 = 128;
-
-const DYN_WINDOW: u32 = 256;
-
-const CLOCK: u32 = 512;
-
-const SEED: u32 = 1024;
-
-const MOST_CLIENTS: usize = 4;
 
 /// A setting by its first word and the text behind it.
 pub fn read_setting(
@@ -54,10 +28,9 @@ pub fn read_setting(
     word: SettingWord,
     rest: &[u8],
 ) -> Result<Line, LineErr>
-    requires ports { ArePorts c.old.ports }
-    ensures reads { Sets (setting_line c.old given.old word (words rest.now)) c.old given.old c.new given.new result }
-    ensures ports { ArePorts c.new.ports }
-    ensures vlans { HaveVlans c.old.ports → HaveVlans c.new.ports }
+    requires ports { are_ports c.old.ports ≡ true }
+    ensures reads { Sets (defined.setting_line c.old given.old word (words rest.now)) c.old given.old c.new given.new result }
+    ensures ports { are_ports c.new.ports ≡ true }
     ensures place { IfOk result (IsInPlace false) }
 {
     match word {
@@ -66,6 +39,8 @@ pub fn read_setting(
         SettingWord::Server => read_server(c, given, rest),
         SettingWord::Client => read_client(c, *given, rest),
         SettingWord::Port => read_port(c, *given, rest),
+        SettingWord::Restricted => read_vlan(OtherVlan::Restricted, c, *given, rest),
+        SettingWord::Guest => read_vlan(OtherVlan::Guest, c, *given, rest),
         SettingWord::Set => read_set(c, given, rest),
         SettingWord::Clock => read_clock(c, given, rest),
         SettingWord::Seed => read_seed(c, given, rest),
@@ -73,105 +48,71 @@ pub fn read_setting(
     }
 }
 
+// Notes a setting that is given once, by its bit.
+fn note_once(given: &mut u32, setting: u32) -> Result<(), LineErr>
+    requires { setting < 32 }
+    ensures { Notes setting given.old given.new result }
+{
+    let bit = 1u32 << setting;
+    if *given & bit != 0 {
+        return Err(LineErr::Bad { why: TWICE });
+    }
+    *given |= bit;
+    Ok(())
+}
+
 // `bridge ADDRESS`
 fn read_bridge(c: &mut Config, given: &mut u32, rest: &[u8]) -> Result<Line, LineErr>
-    ensures reads { Sets (needs wrong_count (one_of (words rest.now)) (bridge_line c.old given.old)) c.old given.old c.new given.new result }
+    ensures reads { Sets (defined.bridge_line c.old given.old (words rest.now)) c.old given.old c.new given.new result }
     ensures ports { c.new.ports ≡ c.old.ports }
     ensures place { IfOk result (IsInPlace false) }
 {
-    let Some(word) = one_word(rest) else {
-        return Err(LineErr::Bad { why: COUNT });
-    };
-    let Some(bridge) = six_octets(word) else {
-        return Err(LineErr::Bad { why: HEX });
-    };
-    if *given & BRIDGE != 0 {
-        return Err(LineErr::Bad { why: TWICE });
-    }
+    let word = one_word(rest).ok_or(LineErr::Bad { why: COUNT })?;
+    let bridge = six_octets(word).ok_or(LineErr::Bad { why: HEX })?;
+    note_once(given, BRIDGE)?;
     c.bridge = Mac(bridge);
-    *given |= BRIDGE;
     Ok(Line::Setting)
 }
 
 // `nas IP NAME`
 fn read_nas(c: &mut Config, given: &mut u32, rest: &[u8]) -> Result<Line, LineErr>
-    ensures reads { Sets (needs wrong_count (two_of (words rest.now)) (nas_line c.old given.old)) c.old given.old c.new given.new result }
+    ensures reads { Sets (defined.nas_line c.old given.old (words rest.now)) c.old given.old c.new given.new result }
     ensures ports { c.new.ports ≡ c.old.ports }
     ensures place { IfOk result (IsInPlace false) }
 {
-    let Some((ip, name)) = two_words(rest) else {
-        return Err(LineErr::Bad { why: COUNT });
-    };
-    let Some(ip) = ip_of(ip) else {
-        return Err(LineErr::Bad { why: NUMBER });
-    };
-    let Some(name) = name_of(name) else {
-        return Err(LineErr::Bad { why: NAME });
-    };
-    if *given & NAS != 0 {
-        return Err(LineErr::Bad { why: TWICE });
-    }
+    let (ip, name) = two_words(rest).ok_or(LineErr::Bad { why: COUNT })?;
+    let ip = ip_of(ip).ok_or(LineErr::Bad { why: NUMBER })?;
+    let name = name_of(name).ok_or(LineErr::Bad { why: NAME })?;
+    note_once(given, NAS)?;
     c.nas = Nas { ip, name };
-    *given |= NAS;
     Ok(Line::Setting)
 }
 
 // `server IP PORT SECRET`
 fn read_server(c: &mut Config, given: &mut u32, rest: &[u8]) -> Result<Line, LineErr>
-    ensures reads { Sets (needs wrong_count (three_of (words rest.now)) (server_line c.old given.old)) c.old given.old c.new given.new result }
+    ensures reads { Sets (defined.server_line c.old given.old (words rest.now)) c.old given.old c.new given.new result }
     ensures ports { c.new.ports ≡ c.old.ports }
     ensures place { IfOk result (IsInPlace false) }
 {
-    let Some((ip, port, secret)) = three_words(rest) else {
-        return Err(LineErr::Bad { why: COUNT });
-    };
-    let Some(ip) = ip_of(ip) else {
-        return Err(LineErr::Bad { why: NUMBER });
-    };
-    let Some(port) = udp_port_of(port, 1) else {
-        return Err(LineErr::Bad { why: NUMBER });
-    };
-    let Some(secret) = secret_of(secret) else {
-        return Err(LineErr::Bad { why: HEX });
-    };
-    if *given & SERVER != 0 {
-        return Err(LineErr::Bad { why: TWICE });
-    }
+    let (ip, port, secret) = three_words(rest).ok_or(LineErr::Bad { why: COUNT })?;
+    let ip = ip_of(ip).ok_or(LineErr::Bad { why: NUMBER })?;
+    let port = udp_port_of(port, 1).ok_or(LineErr::Bad { why: NUMBER })?;
+    let secret = secret_of(secret).ok_or(LineErr::Bad { why: HEX })?;
+    note_once(given, SERVER)?;
     c.server = Addr { ip, port };
     c.secret = secret;
-    *given |= SERVER;
     Ok(Line::Setting)
 }
 
-// `client IP SECRET`
+// `client IP SECRET`, for at most four clients
 fn read_client(c: &mut Config, given: u32, rest: &[u8]) -> Result<Line, LineErr>
-    ensures reads { Sets (needs wrong_count (two_of (words rest.now)) (client_line c.old given)) c.old given c.new given result }
+    ensures reads { Sets (defined.client_line c.old given (words rest.now)) c.old given c.new given result }
     ensures ports { c.new.ports ≡ c.old.ports }
     ensures place { IfOk result (IsInPlace false) }
 {
-    let Some((ip, secret)) = two_words(rest) else {
-        return Err(LineErr::Bad { why: COUNT });
-    };
-    let Some(ip) = ip_of(ip) else {
-        return Err(LineErr::Bad { why: NUMBER });
-    };
-    let Some(secret) = secret_of(secret) else {
-        return Err(LineErr::Bad { why: HEX });
-    };
-    add_client(c, given, ip, secret)
-}
-
-// A client of another address, the fourth at the most.
-fn add_client(
-    c: &mut Config,
-    given: u32,
-    ip: [u8; 4],
-    secret: ArrayVec<u8, 64>,
-) -> Result<Line, LineErr>
-    ensures reads { Sets (add_client_lem c.old given ip secret.items) c.old given c.new given result }
-    ensures ports { c.new.ports ≡ c.old.ports }
-    ensures place { IfOk result (IsInPlace false) }
-{
+    let (ip, secret) = two_words(rest).ok_or(LineErr::Bad { why: COUNT })?;
+    let ip = ip_of(ip).ok_or(LineErr::Bad { why: NUMBER })?;
+    let secret = secret_of(secret).ok_or(LineErr::Bad { why: HEX })?;
     if c.has_client(&ip) || c.clients.len() >= MOST_CLIENTS {
         return Err(LineErr::Bad { why: TWICE });
     }
@@ -181,24 +122,15 @@ fn add_client(
 
 // `port NUMBER VLAN CONTROL`
 fn read_port(c: &mut Config, given: u32, rest: &[u8]) -> Result<Line, LineErr>
-    requires ports { ArePorts c.old.ports }
-    ensures ports { ArePorts c.new.ports }
-    ensures vlans { HaveVlans c.old.ports → HaveVlans c.new.ports }
-    ensures reads { Sets (needs wrong_count (three_of (words rest.now)) (port_line c.old given)) c.old given c.new given result }
+    requires ports { are_ports c.old.ports ≡ true }
+    ensures ports { are_ports c.new.ports ≡ true }
+    ensures reads { Sets (defined.port_line c.old given (words rest.now)) c.old given c.new given result }
     ensures place { IfOk result (IsInPlace false) }
 {
-    let Some((port, native, control)) = three_words(rest) else {
-        return Err(LineErr::Bad { why: COUNT });
-    };
-    let Some(port) = port_of(port) else {
-        return Err(LineErr::Bad { why: NUMBER });
-    };
-    let Some(native) = vlan_of(native) else {
-        return Err(LineErr::Bad { why: NUMBER });
-    };
-    let Some(control) = control_choice(control) else {
-        return Err(LineErr::Bad { why: NAME });
-    };
+    let (port, native, control) = three_words(rest).ok_or(LineErr::Bad { why: COUNT })?;
+    let port = port_of(port).ok_or(LineErr::Bad { why: NUMBER })?;
+    let native = vlan_of(native).ok_or(LineErr::Bad { why: NUMBER })?;
+    let control = control_choice(control).ok_or(LineErr::Bad { why: NAME })?;
     if c.has_port(port) {
         return Err(LineErr::Bad { why: TWICE });
     }
@@ -206,23 +138,78 @@ fn read_port(c: &mut Config, given: u32, rest: &[u8]) -> Result<Line, LineErr>
         port,
         native,
         control,
+        restricted: 0,
+        guest: 0,
     });
     Ok(Line::Setting)
 }
 
+// `restricted NUMBER VLAN` and `guest NUMBER VLAN`
+fn read_vlan(other: OtherVlan, c: &mut Config, given: u32, rest: &[u8]) -> Result<Line, LineErr>
+    requires ports { are_ports c.old.ports ≡ true }
+    ensures ports { are_ports c.new.ports ≡ true }
+    ensures reads { Sets (defined.vlan_line other c.old given (words rest.now)) c.old given c.new given result }
+    ensures place { IfOk result (IsInPlace false) }
+{
+    let (port, vlan) = two_words(rest).ok_or(LineErr::Bad { why: COUNT })?;
+    let port = port_of(port).ok_or(LineErr::Bad { why: NUMBER })?;
+    let vlan = vlan_of(vlan).ok_or(LineErr::Bad { why: NUMBER })?;
+    if !c.has_port(port) {
+        return Err(LineErr::Bad { why: PORT });
+    }
+    if has_other_vlan(other, port, &c.ports) {
+        return Err(LineErr::Bad { why: TWICE });
+    }
+    give_vlan(other, port, vlan, &mut c.ports);
+    Ok(Line::Setting)
+}
+
+fn has_other_vlan(other: OtherVlan, port: u8, ports: &[PortConf]) -> bool
+    ensures { result ≡ defined.has_other_vlan other port ports.now }
+{
+    ports
+        .iter()
+        .any(|p| p.port == port && other_vlan(other, p) != 0)
+}
+
+fn other_vlan(other: OtherVlan, p: &PortConf) -> u16
+    ensures { result ≡ defined.other_vlan other p.now }
+{
+    match other {
+        OtherVlan::Restricted => p.restricted,
+        OtherVlan::Guest => p.guest,
+    }
+}
+
+fn give_vlan(other: OtherVlan, port: u8, vlan: u16, ports: &mut [PortConf])
+    ensures { ports.new ≡ defined.give_vlan other port vlan ports.old }
+{
+    for p in ports.iter_mut() {
+        change_vlan(other, port, vlan, p);
+    }
+}
+
+fn change_vlan(other: OtherVlan, port: u8, vlan: u16, p: &mut PortConf)
+    ensures { p.new ≡ defined.change_vlan other port vlan p.old }
+{
+    if p.port != port {
+        return;
+    }
+    match other {
+        OtherVlan::Restricted => p.restricted = vlan,
+        OtherVlan::Guest => p.guest = vlan,
+    }
+}
+
 // `set` and what is set.
 fn read_set(c: &mut Config, given: &mut u32, rest: &[u8]) -> Result<Line, LineErr>
-    ensures reads { Sets (needs wrong_count (two_of (words rest.now)) (set_line c.old given.old)) c.old given.old c.new given.new result }
+    ensures reads { Sets (defined.set_line c.old given.old (words rest.now)) c.old given.old c.new given.new result }
     ensures ports { c.new.ports ≡ c.old.ports }
     ensures place { IfOk result (IsInPlace false) }
 {
-    let Some((word, value)) = two_words(rest) else {
-        return Err(LineErr::Bad { why: COUNT });
-    };
-    match timing_of(word) {
-        Some(timing) => read_timing(c, given, timing, value),
-        None => Err(LineErr::Bad { why: WORD }),
-    }
+    let (word, value) = two_words(rest).ok_or(LineErr::Bad { why: COUNT })?;
+    let timing = timing_of(word).ok_or(LineErr::Bad { why: WORD })?;
+    read_timing(c, given, timing, value)
 }
 
 // One of the times, or of what goes with them.
@@ -232,7 +219,7 @@ fn read_timing(
     timing: Timing,
     word: &[u8],
 ) -> Result<Line, LineErr>
-    ensures reads { Sets (timing_line c.old given.old timing word.now) c.old given.old c.new given.new result }
+    ensures reads { Sets (defined.timing_line c.old given.old timing word.now) c.old given.old c.new given.new result }
     ensures ports { c.new.ports ≡ c.old.ports }
     ensures place { IfOk result (IsInPlace false) }
 {
@@ -242,161 +229,143 @@ fn read_timing(
         Timing::ReauthMax => set_reauth_max(c, given, word),
         Timing::ReauthPeriod => set_reauth_period(c, given, word),
         Timing::Reauth => set_reauth(c, given, word),
+        Timing::GuestWait => set_guest_wait(c, given, word),
         Timing::DynWindow => set_dyn_window(c, given, word),
+        Timing::RequireMa => set_require_ma(c, given, word),
     }
 }
 
 // `set quiet-period SECONDS`
 fn set_quiet_period(c: &mut Config, given: &mut u32, word: &[u8]) -> Result<Line, LineErr>
-    ensures reads { Sets (timing_line c.old given.old QuietPeriod word.now) c.old given.old c.new given.new result }
+    ensures reads { Sets (defined.timing_line c.old given.old QuietPeriod word.now) c.old given.old c.new given.new result }
     ensures ports { c.new.ports ≡ c.old.ports }
     ensures place { IfOk result (IsInPlace false) }
 {
-    let Some(n) = number_of(word, 1, 65_535) else {
-        return Err(LineErr::Bad { why: NUMBER });
-    };
-    if *given & QUIET_PERIOD != 0 {
-        return Err(LineErr::Bad { why: TWICE });
-    }
+    let n = number_of(word, 1, 65_535).ok_or(LineErr::Bad { why: NUMBER })?;
+    note_once(given, QUIET_PERIOD)?;
     c.times.quiet = n;
-    *given |= QUIET_PERIOD;
     Ok(Line::Setting)
 }
 
 // `set server-timeout SECONDS`
 fn set_server_timeout(c: &mut Config, given: &mut u32, word: &[u8]) -> Result<Line, LineErr>
-    ensures reads { Sets (timing_line c.old given.old ServerTimeout word.now) c.old given.old c.new given.new result }
+    ensures reads { Sets (defined.timing_line c.old given.old ServerTimeout word.now) c.old given.old c.new given.new result }
     ensures ports { c.new.ports ≡ c.old.ports }
     ensures place { IfOk result (IsInPlace false) }
 {
-    let Some(n) = number_of(word, 1, 65_535) else {
-        return Err(LineErr::Bad { why: NUMBER });
-    };
-    if *given & SERVER_TIMEOUT != 0 {
-        return Err(LineErr::Bad { why: TWICE });
-    }
+    let n = number_of(word, 1, 65_535).ok_or(LineErr::Bad { why: NUMBER })?;
+    note_once(given, SERVER_TIMEOUT)?;
     c.times.server = n;
-    *given |= SERVER_TIMEOUT;
     Ok(Line::Setting)
 }
 
 // `set reauth-max ATTEMPTS`
 fn set_reauth_max(c: &mut Config, given: &mut u32, word: &[u8]) -> Result<Line, LineErr>
-    ensures reads { Sets (timing_line c.old given.old ReauthMax word.now) c.old given.old c.new given.new result }
+    ensures reads { Sets (defined.timing_line c.old given.old ReauthMax word.now) c.old given.old c.new given.new result }
     ensures ports { c.new.ports ≡ c.old.ports }
     ensures place { IfOk result (IsInPlace false) }
 {
-    let Some(n) = number_of(word, 1, 10) else {
-        return Err(LineErr::Bad { why: NUMBER });
-    };
-    if *given & REAUTH_MAX != 0 {
-        return Err(LineErr::Bad { why: TWICE });
-    }
+    let n = number_of(word, 1, 10).ok_or(LineErr::Bad { why: NUMBER })?;
+    note_once(given, REAUTH_MAX)?;
     c.times.reauth_max = n;
-    *given |= REAUTH_MAX;
     Ok(Line::Setting)
 }
 
 // `set reauth-period SECONDS`
 fn set_reauth_period(c: &mut Config, given: &mut u32, word: &[u8]) -> Result<Line, LineErr>
-    ensures reads { Sets (timing_line c.old given.old ReauthPeriod word.now) c.old given.old c.new given.new result }
+    ensures reads { Sets (defined.timing_line c.old given.old ReauthPeriod word.now) c.old given.old c.new given.new result }
     ensures ports { c.new.ports ≡ c.old.ports }
     ensures place { IfOk result (IsInPlace false) }
 {
-    let Some(n) = number_of(word, 1, 4_294_967_295) else {
-        return Err(LineErr::Bad { why: NUMBER });
-    };
-    if *given & REAUTH_PERIOD != 0 {
-        return Err(LineErr::Bad { why: TWICE });
-    }
+    let n = number_of(word, 1, 4_294_967_295).ok_or(LineErr::Bad { why: NUMBER })?;
+    note_once(given, REAUTH_PERIOD)?;
     c.times.reauth_period = n;
-    *given |= REAUTH_PERIOD;
     Ok(Line::Setting)
 }
 
 // `set reauth on` and `set reauth off`
 fn set_reauth(c: &mut Config, given: &mut u32, word: &[u8]) -> Result<Line, LineErr>
-    ensures reads { Sets (timing_line c.old given.old Reauth word.now) c.old given.old c.new given.new result }
+    ensures reads { Sets (defined.timing_line c.old given.old Reauth word.now) c.old given.old c.new given.new result }
     ensures ports { c.new.ports ≡ c.old.ports }
     ensures place { IfOk result (IsInPlace false) }
 {
-    let Some(on) = switch_choice(word) else {
-        return Err(LineErr::Bad { why: NAME });
-    };
-    if *given & REAUTH != 0 {
-        return Err(LineErr::Bad { why: TWICE });
-    }
+    let on = switch_choice(word).ok_or(LineErr::Bad { why: NAME })?;
+    note_once(given, REAUTH)?;
     c.times.reauth = on;
-    *given |= REAUTH;
+    Ok(Line::Setting)
+}
+
+// `set guest-wait SECONDS`
+fn set_guest_wait(c: &mut Config, given: &mut u32, word: &[u8]) -> Result<Line, LineErr>
+    ensures reads { Sets (defined.timing_line c.old given.old GuestWait word.now) c.old given.old c.new given.new result }
+    ensures ports { c.new.ports ≡ c.old.ports }
+    ensures place { IfOk result (IsInPlace false) }
+{
+    let n = number_of(word, 1, 65_535).ok_or(LineErr::Bad { why: NUMBER })?;
+    note_once(given, GUEST_WAIT)?;
+    c.guest_wait = n;
     Ok(Line::Setting)
 }
 
 // `set dyn-window SECONDS`
 fn set_dyn_window(c: &mut Config, given: &mut u32, word: &[u8]) -> Result<Line, LineErr>
-    ensures reads { Sets (timing_line c.old given.old DynWindow word.now) c.old given.old c.new given.new result }
+    ensures reads { Sets (defined.timing_line c.old given.old DynWindow word.now) c.old given.old c.new given.new result }
     ensures ports { c.new.ports ≡ c.old.ports }
     ensures place { IfOk result (IsInPlace false) }
 {
-    let Some(n) = decimal(word, 1, 86_400) else {
-        return Err(LineErr::Bad { why: NUMBER });
-    };
-    if *given & DYN_WINDOW != 0 {
-        return Err(LineErr::Bad { why: TWICE });
-    }
+    let n = decimal(word, 1, 86_400).ok_or(LineErr::Bad { why: NUMBER })?;
+    note_once(given, DYN_WINDOW)?;
     c.window = n;
-    *given |= DYN_WINDOW;
+    Ok(Line::Setting)
+}
+
+// `set require-ma on` and `set require-ma off`
+fn set_require_ma(c: &mut Config, given: &mut u32, word: &[u8]) -> Result<Line, LineErr>
+    ensures reads { Sets (defined.timing_line c.old given.old RequireMa word.now) c.old given.old c.new given.new result }
+    ensures ports { c.new.ports ≡ c.old.ports }
+    ensures place { IfOk result (IsInPlace false) }
+{
+    let on = switch_choice(word).ok_or(LineErr::Bad { why: NAME })?;
+    note_once(given, REQUIRE_MA)?;
+    c.require_ma = on;
     Ok(Line::Setting)
 }
 
 // `clock SECONDS`
 fn read_clock(c: &mut Config, given: &mut u32, rest: &[u8]) -> Result<Line, LineErr>
-    ensures reads { Sets (needs wrong_count (one_of (words rest.now)) (clock_line c.old given.old)) c.old given.old c.new given.new result }
+    ensures reads { Sets (defined.clock_line c.old given.old (words rest.now)) c.old given.old c.new given.new result }
     ensures ports { c.new.ports ≡ c.old.ports }
     ensures place { IfOk result (IsInPlace false) }
 {
-    let Some(word) = one_word(rest) else {
-        return Err(LineErr::Bad { why: COUNT });
-    };
-    let Some(n) = decimal(word, 0, 4_294_967_295) else {
-        return Err(LineErr::Bad { why: NUMBER });
-    };
-    if *given & CLOCK != 0 {
-        return Err(LineErr::Bad { why: TWICE });
-    }
+    let word = one_word(rest).ok_or(LineErr::Bad { why: COUNT })?;
+    let n = decimal(word, 0, 4_294_967_295).ok_or(LineErr::Bad { why: NUMBER })?;
+    note_once(given, CLOCK)?;
     c.clock = n;
-    *given |= CLOCK;
     Ok(Line::Setting)
 }
 
 // `seed OCTETS`
 fn read_seed(c: &mut Config, given: &mut u32, rest: &[u8]) -> Result<Line, LineErr>
-    ensures reads { Sets (needs wrong_count (one_of (words rest.now)) (seed_line c.old given.old)) c.old given.old c.new given.new result }
+    ensures reads { Sets (defined.seed_line c.old given.old (words rest.now)) c.old given.old c.new given.new result }
     ensures ports { c.new.ports ≡ c.old.ports }
     ensures place { IfOk result (IsInPlace false) }
 {
-    let Some(word) = one_word(rest) else {
-        return Err(LineErr::Bad { why: COUNT });
-    };
-    let Some(seed) = thirty_two_octets(word) else {
-        return Err(LineErr::Bad { why: HEX });
-    };
-    if *given & SEED != 0 {
-        return Err(LineErr::Bad { why: TWICE });
-    }
+    let word = one_word(rest).ok_or(LineErr::Bad { why: COUNT })?;
+    let seed = thirty_two_octets(word).ok_or(LineErr::Bad { why: HEX })?;
+    note_once(given, SEED)?;
     c.seed = seed;
-    *given |= SEED;
     Ok(Line::Setting)
 }
 
 // `begin`
 fn read_begin(given: u32, rest: &[u8]) -> Result<Line, LineErr>
-    ensures means { Means (alone (begin_line given) (words rest.now)) result }
+    ensures means { Means (defined.begin_line given (words rest.now)) result }
     ensures place { IfOk result (IsInPlace false) }
 {
     if first_word(rest).is_some() {
         return Err(LineErr::Bad { why: COUNT });
     }
-    if given & SERVER == 0 {
+    if given & (1 << SERVER) == 0 {
         return Err(LineErr::Bad { why: MISSING });
     }
     Ok(Line::Begin)

@@ -1,8 +1,8 @@
-// Lines against the reasons to refuse them, and what is printed.
-ghost use Rattle.std.specs.Prelude.{IfOk};
-ghost use Rattle.switch_event.specs.Config.{ArePorts};
+// Lines against the reasons to refuse them.
+ghost use Rattle.std.specs.Prelude.{◌≡◌, IfOk, true};
+ghost use Rattle.switch_event.specs.Config.{are_ports};
 
-use crate::{Config, LineErr, Octets, Outcome, print_config, print_control, print_line, read_line};
+use crate::{Config, Event, Line, LineErr, Octets, read_line};
 use std::alloc::{AllocError, Global};
 use std::test::Fail;
 
@@ -14,7 +14,7 @@ struct Settings {
 }
 
 fn no_settings() -> Settings
-    ensures { ArePorts result.config.ports }
+    ensures { are_ports result.config.ports ≡ true }
 {
     Settings {
         config: Config::empty(),
@@ -23,7 +23,7 @@ fn no_settings() -> Settings
 }
 
 fn with_lines(alloc: Global, lines: &[&str]) -> Result<Settings, LineErr>
-    ensures { IfOk result (λ s. ArePorts s.config.ports) }
+    ensures { IfOk result (λ s. are_ports s.config.ports ≡ true) }
 {
     let mut s = no_settings();
     for line in lines {
@@ -41,7 +41,7 @@ enum When {
 }
 
 fn settings_of(alloc: Global, when: When) -> Result<Settings, LineErr>
-    ensures { IfOk result (λ s. ArePorts s.config.ports) }
+    ensures { IfOk result (λ s. are_ports s.config.ports ≡ true) }
 {
     if when == When::Nothing {
         return Ok(no_settings());
@@ -51,6 +51,11 @@ fn settings_of(alloc: Global, when: When) -> Result<Settings, LineErr>
         &[
             "server 192.0.2.20 1812 736563726574",
             "port 1 10 auto",
+            "port 3 10 auto",
+            "restricted 3 99",
+            "guest 3 77",
+            "set guest-wait 5",
+            "set require-ma on",
             "client 192.0.2.30 64796e",
             "client 192.0.2.31 64796e",
             "client 192.0.2.32 64796e",
@@ -70,7 +75,7 @@ fn padded(alloc: Global, line: &str, count: usize) -> Result<Vec<u8>, AllocError
 
 #[test]
 fn a_line_is_refused_for_the_first_of_its_reasons(rt: HostRuntime) -> Result<(), Fail> {
-    let rows: [(When, &str, usize, u8); 67] = [
+    let rows: [(When, &str, usize, u8); 95] = [
         (When::Before, "", 10241, 1),
         (When::After, "\u{1}", 10240, 1),
         (When::Before, "@9 ", 10238, 1),
@@ -158,7 +163,35 @@ fn a_line_is_refused_for_the_first_of_its_reasons(rt: HostRuntime) -> Result<(),
         (When::Nothing, "begin", 0, 13),
         (When::Nothing, "  begin  ", 0, 13),
         (When::Nothing, "begin\r", 0, 13),
+        (When::Before, "restricted 2", 0, 6),
+        (When::Before, "guest 1 1 1", 0, 6),
+        (When::After, "guest 1", 0, 5),
+        (When::After, "restricted 0 0", 0, 5),
+        (When::Before, "restricted 61 4095", 0, 7),
+        (When::Before, "guest 2 0", 0, 7),
+        (When::Before, "restricted 1 4095", 0, 7),
+        (When::Before, "restricted 2 1", 0, 10),
+        (When::Before, "guest 60 4094", 0, 10),
+        (When::Before, "restricted 3 98", 0, 12),
+        (When::Before, "guest 3 78", 0, 12),
+        (When::Before, "Restricted 1 1", 0, 4),
+        (When::Before, "set guest 5", 0, 4),
+        (When::Before, "set guest-wait", 0, 6),
+        (When::Before, "set guest-wait 0", 0, 7),
+        (When::Before, "set guest-wait 65536", 0, 7),
+        (When::Before, "set guest-wait 6", 0, 12),
+        (When::Before, "set require-ma maybe", 0, 9),
+        (When::Before, "set require-ma off", 0, 12),
+        (When::After, "set require-ma maybe", 0, 5),
+        (When::After, "radius", 0, 6),
+        (When::After, "radius 5 0 0", 0, 6),
+        (When::After, "radius 5 0g", 0, 7),
+        (When::After, "radius 00 00", 0, 7),
+        (When::After, "radius 4 0g", 0, 8),
+        (When::After, "radius -0", 0, 8),
         (When::After, "tick", 0, 14),
+        (When::After, "radius 0 00", 0, 14),
+        (When::After, "radius 4 -", 0, 14),
         (When::After, "@2 radius -", 0, 14),
         (When::After, "dyn 192.0.2.30 0 00", 0, 14),
         (When::After, "control 1 auto", 0, 14),
@@ -191,7 +224,7 @@ fn a_line_is_refused_for_the_first_of_its_reasons(rt: HostRuntime) -> Result<(),
 
 #[test]
 fn lines_are_read(rt: HostRuntime) -> Result<(), Fail> {
-    let rows: [(When, &str); 14] = [
+    let rows: [(When, &str); 17] = [
         (When::Nothing, ""),
         (When::After, "   \r"),
         (When::Before, "# a comment \u{e9}"),
@@ -200,6 +233,9 @@ fn lines_are_read(rt: HostRuntime) -> Result<(), Fail> {
         (When::Before, "bridge 0200000A0B0c"),
         (When::Before, "nas 10.0.0.1 -"),
         (When::Before, "set reauth-period 4294967295"),
+        (When::Before, "restricted 1 4094"),
+        (When::Before, "guest 1 1"),
+        (When::Nothing, "set require-ma off"),
         (When::Before, "begin"),
         (When::After, "link 1 down\r"),
         (When::After, "@3 link 1 up"),
@@ -221,108 +257,69 @@ fn lines_are_read(rt: HostRuntime) -> Result<(), Fail> {
     Ok(())
 }
 
-const SHUFFLED: [&str; 14] = [
-    "seed 000102030405060708090A0B0C0D0E0F101112131415161718191a1b1c1d1e1f",
-    "port 3 30 force-unauth",
-    "clock 7",
-    "set reauth on",
-    "client 192.0.2.31 ff",
-    "server 192.0.2.20 1812 736563726574",
-    "set dyn-window 86400",
-    "port 1 10 auto",
-    "set reauth-max 10",
-    "client 192.0.2.30 64796E",
-    "bridge 02000000000a",
-    "set server-timeout 1",
-    "nas 10.0.0.1 -",
-    "set quiet-period 65535",
-];
-
-const PRINTED: [&str; 16] = [
-    "bridge 02000000000a",
-    "nas 10.0.0.1 -",
-    "server 192.0.2.20 1812 736563726574",
-    "client 192.0.2.31 ff",
-    "client 192.0.2.30 64796e",
-    "port 3 30 force-unauth",
-    "port 1 10 auto",
-    "set quiet-period 65535",
-    "set server-timeout 1",
-    "set reauth-max 10",
-    "set reauth-period 3600",
-    "set reauth on",
-    "set dyn-window 86400",
-    "clock 7",
-    "seed 000102030405060708090a0b0c0d0e0f101112131415161718191a1b1c1d1e1f",
-    "begin",
-];
-
-fn joined(alloc: Global, lines: &[&str]) -> Result<String, AllocError> {
-    let mut text = String::new(alloc);
-    for line in lines {
-        text.push_str(line)?;
-        text.push_str("\n")?;
+// A word of hexadecimal digits for so many zeros, behind the beginning of a line.
+fn zeros(alloc: Global, line: &str, count: usize) -> Result<Vec<u8>, AllocError> {
+    let mut text = line.as_bytes().to_vec(alloc)?;
+    for _ in 0..count {
+        text.extend_from_slice(b"00")?;
     }
     Ok(text)
 }
 
 #[test]
-fn settings_print_in_their_order_and_read_back(rt: HostRuntime) -> Result<(), Fail> {
-    let printed = joined(rt.alloc(), &PRINTED)?;
-    for lines in [SHUFFLED.as_slice(), PRINTED.as_slice()] {
-        let s = with_lines(rt.alloc(), lines)?;
-        let mut out = Vec::new(rt.alloc());
-        print_config(rt.alloc(), &s.config, &mut out)?;
-        assert_eq!(rt; out.as_slice(), printed.as_bytes());
-        assert!(rt; s.config.valid());
-    }
-    Ok(())
-}
-
-#[test]
-fn records_print_without_lane_1(rt: HostRuntime) -> Result<(), Fail> {
+fn a_frame_of_2001_octets_and_a_datagram_of_5001_are_refused(rt: HostRuntime) -> Result<(), Fail> {
     let rows = [
-        ("@1  link 1 up", "link 1 up\n"),
-        ("@3 link 1 down\r", "@3 link 1 down\n"),
-        ("frame 1 -", "frame 1 -\n"),
-        (" frame 1 00Ff", "frame 1 00ff\n"),
-        ("sync", "sync\n"),
+        ("frame 1 ", 2000, None),
+        ("frame 1 ", 2001, Some(8)),
+        ("@1 frame 2 ", 2001, Some(8)),
+        ("radius ", 5000, Some(14)),
+        ("radius ", 5001, Some(8)),
+        ("radius 4 ", 5000, Some(14)),
+        ("radius 4 ", 5001, Some(8)),
+        ("dyn 192.0.2.30 3799 ", 5000, Some(14)),
+        ("dyn 192.0.2.30 3799 ", 5001, Some(8)),
     ];
-    for (line, printed) in rows {
+    for (line, count, why) in rows {
         let mut s = settings_of(rt.alloc(), When::After)?;
-        let read = read_line(
-            rt.alloc(),
-            &mut s.config,
-            &mut s.given,
-            true,
-            line.as_bytes(),
-        )?;
-        let mut out = Vec::new(rt.alloc());
-        print_line(rt.alloc(), &read, &mut out)?;
-        assert_eq!(rt; out.as_slice(), printed.as_bytes(), "at {line}");
+        let text = zeros(rt.alloc(), line, count)?;
+        let answer = read_line(rt.alloc(), &mut s.config, &mut s.given, true, &text);
+        match (answer, why) {
+            (Ok(Line::Data { port: 1, octets }), None) => {
+                assert_eq!(rt; octets.as_slice().len(), count);
+            }
+            (Err(e), Some(why)) => assert_eq!(rt; e, LineErr::Bad { why }, "at {line}{count}"),
+            _ => assert!(rt; false, "at {line}{count}"),
+        }
     }
     Ok(())
 }
 
 #[test]
-fn each_outcome_has_its_text(rt: HostRuntime) -> Result<(), Fail> {
-    let rows = [
-        (Outcome::Done, "c 7 @2 3 ok\n"),
-        (Outcome::FrameDropped(1), "c 7 @2 3 drop elsewhere\n"),
-        (Outcome::FrameDropped(14), "c 7 @2 3 drop port-full\n"),
-        (
-            Outcome::AnswerDropped(5),
-            "c 7 @2 3 drop bad-message-auth\n",
-        ),
-        (Outcome::Acked, "c 7 @2 3 ack\n"),
-        (Outcome::Naked(503), "c 7 @2 3 nak 503\n"),
-        (Outcome::Again, "c 7 @2 3 again\n"),
-        (Outcome::RequestDropped(8), "c 7 @2 3 drop stale\n"),
-    ];
-    for (outcome, printed) in rows {
-        let mut out = Vec::new(rt.alloc());
-        print_control(rt.alloc(), 7, 2, 3, &outcome, None, &mut out)?;
-        assert_eq!(rt; out.as_slice(), printed.as_bytes());
+fn settings_are_valid_at_begin(rt: HostRuntime) -> Result<(), Fail> {
+    let mut s = settings_of(rt.alloc(), When::Before)?;
+    let answer = read_line(rt.alloc(), &mut s.config, &mut s.given, false, b"begin")?;
+    assert!(rt; matches!(answer, Line::Begin));
+    assert!(rt; s.config.valid());
+    assert_eq!(rt; s.given, 0x1804);
+    Ok(())
+}
+
+#[test]
+fn the_event_of_a_record_has_its_fields(rt: HostRuntime) -> Result<(), Fail> {
+    let mut s = settings_of(rt.alloc(), When::After)?;
+    let read = read_line(
+        rt.alloc(),
+        &mut s.config,
+        &mut s.given,
+        true,
+        b"@3 link 3 up\r",
+    )?;
+    match read {
+        Line::Control { lane, what } => {
+            assert_eq!(rt; lane, 3);
+            assert_eq!(rt; what.event(), Event::Link { port: 3, up: true });
+        }
+        _ => assert!(rt; false, "no control event"),
     }
     Ok(())
 }

@@ -6,13 +6,12 @@ ghost use Rattle.trace_lang.specs.Meaning.{Decodes};
 ghost use Rattle.trace_lang.specs.declared.line.LineErr.TheVariants.{NoMemory};
 
 use crate::line::LineErr;
-use crate::octets::Octets;
-use crate::reason::HEX;
 use crate::words::cut_at_stop;
 use arrayvec::ArrayVec;
 use hex::{FromHex, FromHexError};
 use machine_vars::Control;
 use std::alloc::Global;
+use trace_defs::{HEX, Octets};
 use wire_core::decimal;
 
 /// A port's number, 1 to 60.
@@ -47,6 +46,14 @@ pub fn udp_port_of(text: &[u8], least: u16) -> Option<u16>
 {
     let port = decimal(text, u64::from(least), 65535)?;
     Some(port as u16)
+}
+
+/// The number of a socket, 0 to 4.
+pub fn socket_of(text: &[u8]) -> Option<u8>
+    ensures { result ≡ number_in 0 4 text.now }
+{
+    let socket = decimal(text, 0, 4)?;
+    Some(socket as u8)
 }
 
 fn octet_of(text: &[u8]) -> Option<u8>
@@ -160,12 +167,10 @@ pub fn control_choice(text: &[u8]) -> Option<Control>
 pub fn link_choice(text: &[u8]) -> Option<bool>
     ensures { result ≡ link_of text.now }
 {
-    if text == b"up".as_slice() {
-        Some(true)
-    } else if text == b"down".as_slice() {
-        Some(false)
-    } else {
-        None
+    match text {
+        b"up" => Some(true),
+        b"down" => Some(false),
+        _ => None,
     }
 }
 
@@ -173,11 +178,9 @@ pub fn link_choice(text: &[u8]) -> Option<bool>
 pub fn switch_choice(text: &[u8]) -> Option<bool>
     ensures { result ≡ switch_of text.now }
 {
-    if text == b"on".as_slice() {
-        Some(true)
-    } else if text == b"off".as_slice() {
-        Some(false)
-    } else {
-        None
+    match text {
+        b"on" => Some(true),
+        b"off" => Some(false),
+        _ => None,
     }
 }

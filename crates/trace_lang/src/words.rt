@@ -2,7 +2,7 @@
 ghost use Rattle.std.specs.Prelude.{◌≡◌, ◌≢◌, ◌<◌, ◌==◌, ◌∷◌, [], length, slice_index, MatchOption, Some, None};
 ghost use Rattle.std.specs.List.{slice_split};
 ghost use Rattle.wire_defs.specs.Text.{words};
-ghost use Rattle.trace_defs.specs.Word.{one_of, two_of, three_of};
+ghost use Rattle.trace_defs.specs.Word.{one_of, two_of, three_of, socket_of};
 ghost use Rattle.trace_lang.specs.Words.{IsPartLen};
 
 const SPACE: u8 = b' ';
@@ -54,6 +54,20 @@ pub fn three_words(text: &[u8]) -> Option<(&[u8], &[u8], &[u8])>
         return None;
     }
     Some((first, second, third))
+}
+
+/// The words of a text that has two, or `0` and the word of a text that has one.
+pub fn socket_words(text: &[u8]) -> Option<(&[u8], &[u8])>
+    ensures { MatchOption result (socket_of (words text.now) ≡ None) (λ found. socket_of (words text.now) ≡ Some (found.0.now, found.1.now)) }
+{
+    let (first, rest) = first_word(text)?;
+    let Some((second, rest)) = first_word(rest) else {
+        return Some((b"0", first));
+    };
+    if first_word(rest).is_some() {
+        return None;
+    }
+    Some((first, second))
 }
 
 /// The part of a word before its first full stop, and what follows that.

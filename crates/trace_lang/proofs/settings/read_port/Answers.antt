@@ -1,29 +1,24 @@
-use Rattle.std.proofs.Common.{◌≡◌, false, eqb, sym, ap, ◌∙◌, subst, lit<, length, ◌<◌, ◌++◌, ◌∷◌, []}
-use Rattle.std.specs.List.{list_any}
+use Rattle.std.proofs.Common.{◌≡◌, ◌<◌, ◌++◌, ◌∷◌, [], false, true, length, lit<, sym, ap, ◌∙◌, subst}
 use Rattle.switch_event.specs.declared.config.PortConf.{PortConf}
-use Rattle.switch_event.specs.Config.{ArePorts, HaveVlans}
-use Rattle.trace_lang.proofs.PortLemmas.{ArePorts-more, ArePorts-room, HaveVlans-more}
+use Rattle.switch_event.specs.Config.{is_among, are_ports}
+use Rattle.trace_defs.proofs.PortFacts.{are_ports-more, are_ports-room}
+use Rattle.trace_defs.proofs.SettingFacts.{in_range}
 use Rattle.trace_lang.proofs.settings.read_port.Goals as goal
 
 pub push-requires : goal.push-requires
 push-requires c =
-    let conf : PortConf = record { port = c.in-Some-port_of.port; native = c.in-Some-vlan_of.native; control = c.in-Some-control_choice.control } in
+    let port = c.in_ok-port-2.port in
+    let conf : PortConf = record { port = port; native = c.in_ok-native.native; control = c.in_ok-control.control; restricted = 0; guest = 0 } in
     let same : c.c.inside.ports.items ≡ c.args.c.now.ports = ap (λ v. v.ports) c.c.view_is in
-    let none : list_any (λ p. eqb p.port conf.port) c.args.c.now.ports ≡ false = sym c.if-has_port.ensures in
-    let more = ArePorts-more c.args.c.now.ports conf c.requires.ports c.in-Some-port_of.ensures.range.0 c.in-Some-port_of.ensures.range.1 none in
-    (lit< tt, subst (λ ports. length ports < 60) (sym same) (ArePorts-room c.args.c.now.ports conf more))
+    let none : is_among port c.args.c.now.ports ≡ false = sym c.if-has_port.ensures in
+    let number = in_range 1 60 c.in_ok-port.port.now port (sym c.port_of.ensures.value ∙ c.in_ok-port-2.ensures.ok_part) in
+    (lit< tt, subst (λ ports. length ports < 60) (sym same) (are_ports-room c.args.c.now.ports conf (are_ports-more c.args.c.now.ports conf c.requires.ports number none)))
 
 pub returns-clause-ports : goal.returns-clause-ports
 returns-clause-ports c =
-    let conf : PortConf = record { port = c.in-Some-port_of.port; native = c.in-Some-vlan_of.native; control = c.in-Some-control_choice.control } in
+    let port = c.in_ok-port-2.port in
+    let conf : PortConf = record { port = port; native = c.in_ok-native.native; control = c.in_ok-control.control; restricted = 0; guest = 0 } in
     let same : c.c.inside.ports.items ≡ c.args.c.now.ports = ap (λ v. v.ports) c.c.view_is in
-    let none : list_any (λ p. eqb p.port conf.port) c.args.c.now.ports ≡ false = sym c.if-has_port.ensures in
-    subst ArePorts (sym (c.push.ensures.items ∙ ap (λ ports. ports ++ conf ∷ []) same))
-    (ArePorts-more c.args.c.now.ports conf c.requires.ports c.in-Some-port_of.ensures.range.0 c.in-Some-port_of.ensures.range.1 none)
-
-pub returns-clause-vlans : goal.returns-clause-vlans
-returns-clause-vlans c = λ vlans.
-    let conf : PortConf = record { port = c.in-Some-port_of.port; native = c.in-Some-vlan_of.native; control = c.in-Some-control_choice.control } in
-    let same : c.c.inside.ports.items ≡ c.args.c.now.ports = ap (λ v. v.ports) c.c.view_is in
-    subst HaveVlans (sym (c.push.ensures.items ∙ ap (λ ports. ports ++ conf ∷ []) same))
-    (HaveVlans-more c.args.c.now.ports conf vlans c.in-Some-vlan_of.ensures.range.0 c.in-Some-vlan_of.ensures.range.1)
+    let none : is_among port c.args.c.now.ports ≡ false = sym c.if-has_port.ensures in
+    let number = in_range 1 60 c.in_ok-port.port.now port (sym c.port_of.ensures.value ∙ c.in_ok-port-2.ensures.ok_part) in
+    ap are_ports (c.push.ensures.items ∙ ap (λ ports. ports ++ conf ∷ []) same) ∙ are_ports-more c.args.c.now.ports conf c.requires.ports number none

@@ -1,5 +1,0 @@
-use Rattle.trace_lang.proofs.TextLemmas.{record_back}
-use Rattle.trace_lang.proofs.text.print_line.Goals as goal
-
-pub returns-clause-back : goal.returns-clause-back
-returns-clause-back c = λ config given line r is read. record_back c.append_line.result c.args.l.now c.args.out.now.items _ config given line r is read c.append_line.ensures.printed

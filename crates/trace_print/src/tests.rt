@@ -1,0 +1,273 @@
+// What is printed, octet by octet.
+use crate::{
+    Config, Decided, Decision, Drop9, Line, Outcome, Tray, can_come, print_config, print_control,
+    print_data, print_line,
+};
+use arrayvec::ArrayVec;
+use out_tray::Sent;
+use std::alloc::Global;
+use std::test::Fail;
+use switch_event::{Client, Control, PortConf};
+use trace_defs::{Octets, Record};
+use wire_core::Addr;
+
+fn port(port: u8, restricted: u16, guest: u16) -> PortConf {
+    PortConf {
+        port,
+        native: 10,
+        control: Control::Auto,
+        restricted,
+        guest,
+    }
+}
+
+fn secret(octets: &[u8]) -> ArrayVec<u8, 64> {
+    let mut secret = ArrayVec::new();
+    let _fits = secret.try_extend_from_slice(octets);
+    secret
+}
+
+const PRINTED: &str = "bridge 020000010100
+nas 192.0.2.10 sw1
+server 192.0.2.20 1812 736563726574
+client 192.0.2.30 64796e
+port 3 10 auto
+port 1 10 auto
+port 2 10 auto
+restricted 3 99
+restricted 2 4094
+guest 1 1
+guest 2 77
+set quiet-period 60
+set server-timeout 30
+set reauth-max 2
+set reauth-period 3600
+set reauth off
+set guest-wait 5
+set dyn-window 300
+set require-ma off
+clock 0
+seed 0000000000000000000000000000000000000000000000000000000000000000
+begin
+";
+
+#[test]
+fn settings_print_in_their_order(rt: HostRuntime) -> Result<(), Fail> {
+    let mut c = Config::empty();
+    c.server = Addr {
+        ip: [192, 0, 2, 20],
+        port: 1812,
+    };
+    c.secret = secret(b"secret");
+    let _fits = c.clients.try_push(Client {
+        ip: [192, 0, 2, 30],
+        secret: secret(b"dyn"),
+    });
+    let _fits = c.ports.try_push(port(3, 99, 0));
+    let _fits = c.ports.try_push(port(1, 0, 1));
+    let _fits = c.ports.try_push(port(2, 4094, 77));
+    c.guest_wait = 5;
+    c.require_ma = false;
+    let mut out = Vec::new(rt.alloc());
+    print_config(&c, &mut out)?;
+    assert_eq!(rt; out.as_slice(), PRINTED.as_bytes());
+    Ok(())
+}
+
+fn octets(alloc: Global, octets: &[u8]) -> Result<Octets, std::alloc::AllocError> {
+    Octets::of(alloc, octets)
+}
+
+#[test]
+fn records_print_without_lane_1_and_socket_0(rt: HostRuntime) -> Result<(), Fail> {
+    let from = Addr {
+        ip: [192, 0, 2, 30],
+        port: 3799,
+    };
+    let rows = [
+        (1, Record::Second, "tick\n"),
+        (2, Record::Second, "@2 tick\n"),
+        (
+            3,
+            Record::Link {
+                port: 60,
+                up: false,
+            },
+            "@3 link 60 down\n",
+        ),
+        (
+            1,
+            Record::SetControl {
+                port: 1,
+                control: Control::ForceUnauth,
+            },
+            "control 1 force-unauth\n",
+        ),
+        (
+            2,
+            Record::Frame {
+                port: 1,
+                octets: octets(rt.alloc(), &[0xff, 0])?,
+            },
+            "@2 frame 1 ff00\n",
+        ),
+        (
+            1,
+            Record::Radius {
+                socket: 0,
+                octets: octets(rt.alloc(), &[])?,
+            },
+            "radius -\n",
+        ),
+        (
+            3,
+            Record::Radius {
+                socket: 4,
+                octets: octets(rt.alloc(), &[10])?,
+            },
+            "@3 radius 4 0a\n",
+        ),
+        (
+            1,
+            Record::Dynamic {
+                from,
+                octets: octets(rt.alloc(), &[1])?,
+            },
+            "dyn 192.0.2.30 3799 01\n",
+        ),
+    ];
+    for (lane, what, printed) in rows {
+        let mut out = Vec::new(rt.alloc());
+        assert!(rt; lane >= 1 && lane <= 3);
+        print_line(&Line::Control { lane, what }, &mut out)?;
+        assert_eq!(rt; out.as_slice(), printed.as_bytes());
+    }
+    let mut out = Vec::new(rt.alloc());
+    let frame = Line::Data {
+        port: 2,
+        octets: octets(rt.alloc(), &[])?,
+    };
+    for line in [Line::Begin, frame, Line::Sync, Line::Setting, Line::Blank] {
+        print_line(&line, &mut out)?;
+    }
+    assert_eq!(rt; out.as_slice(), b"begin\nframe 2 -\nsync\n\n".as_slice());
+    Ok(())
+}
+
+#[test]
+fn each_outcome_has_its_text(rt: HostRuntime) -> Result<(), Fail> {
+    let rows = [
+        (Outcome::Done, "ok"),
+        (Outcome::FrameDropped(1), "drop elsewhere"),
+        (Outcome::FrameDropped(2), "drop group-source"),
+        (Outcome::FrameDropped(3), "drop down"),
+        (Outcome::FrameDropped(4), "drop eapol-short"),
+        (Outcome::FrameDropped(5), "drop key"),
+        (Outcome::FrameDropped(6), "drop eapol-type"),
+        (Outcome::FrameDropped(7), "drop body-short"),
+        (Outcome::FrameDropped(8), "drop eap-short"),
+        (Outcome::FrameDropped(9), "drop eap-code"),
+        (Outcome::FrameDropped(10), "drop eap-length"),
+        (Outcome::FrameDropped(11), "drop not-response"),
+        (Outcome::FrameDropped(12), "drop forced"),
+        (Outcome::FrameDropped(13), "drop no-session"),
+        (Outcome::FrameDropped(14), "drop port-full"),
+        (Outcome::AnswerDropped(1), "drop malformed"),
+        (Outcome::AnswerDropped(2), "drop no-request"),
+        (Outcome::AnswerDropped(3), "drop bad-code"),
+        (Outcome::AnswerDropped(4), "drop bad-authenticator"),
+        (Outcome::AnswerDropped(5), "drop bad-message-auth"),
+        (Outcome::AnswerDropped(6), "drop oversize"),
+        (Outcome::AnswerDropped(7), "drop bad-eap"),
+        (Outcome::Acked, "ack"),
+        (Outcome::Naked(503), "nak 503"),
+        (Outcome::Again, "again"),
+        (Outcome::RequestDropped(1), "drop stranger"),
+        (Outcome::RequestDropped(2), "drop malformed"),
+        (Outcome::RequestDropped(3), "drop oversize"),
+        (Outcome::RequestDropped(4), "drop bad-code"),
+        (Outcome::RequestDropped(5), "drop bad-authenticator"),
+        (Outcome::RequestDropped(6), "drop bad-message-auth"),
+        (Outcome::RequestDropped(8), "drop stale"),
+    ];
+    assert!(rt; !can_come(&Outcome::FrameDropped(0)));
+    assert!(rt; !can_come(&Outcome::FrameDropped(15)));
+    assert!(rt; !can_come(&Outcome::AnswerDropped(8)));
+    assert!(rt; !can_come(&Outcome::RequestDropped(7)));
+    let tray = Tray::open(rt.alloc(), 0)?;
+    for (outcome, text) in rows {
+        let mut out = Vec::new(rt.alloc());
+        assert!(rt; can_come(&outcome), "at {text}");
+        print_control(7, 2, 3, &outcome, &tray, &mut out)?;
+        let printed = format!(in rt.alloc(); "c 7 @2 3 {text}\n")?;
+        assert_eq!(rt; out.as_slice(), printed.as_bytes());
+    }
+    Ok(())
+}
+
+#[test]
+fn what_was_sent_stands_in_its_order(rt: HostRuntime) -> Result<(), Fail> {
+    let mut tray = Tray::open(rt.alloc(), 0)?;
+    tray.put(Sent::Frame {
+        port: 60,
+        octets: &[1, 0xab],
+    });
+    tray.put(Sent::Radius {
+        socket: 0,
+        octets: &[2],
+    });
+    tray.put(Sent::Radius {
+        socket: 3,
+        octets: &[3],
+    });
+    tray.put(Sent::Reply {
+        to: Addr {
+            ip: [192, 0, 2, 30],
+            port: 65_535,
+        },
+        octets: &[0xf0],
+    });
+    let mut out = Vec::new(rt.alloc());
+    print_control(1_048_576, 1, 0, &Outcome::Acked, &tray, &mut out)?;
+    assert_eq!(rt;
+        out.as_slice(),
+        b"c 1048576 @1 0 ack\nf 60 01ab\nr 02\nr 3 03\ny 192.0.2.30 65535 f0\n".as_slice()
+    );
+    Ok(())
+}
+
+#[test]
+fn each_decision_has_its_text(rt: HostRuntime) -> Result<(), Fail> {
+    let rows = [
+        (Drop9::Runt, "runt"),
+        (Drop9::Giant, "giant"),
+        (Drop9::Control, "control"),
+        (Drop9::Reserved, "reserved"),
+        (Drop9::Tagged, "tagged"),
+        (Drop9::GroupSource, "group-source"),
+        (Drop9::Down, "down"),
+        (Drop9::Closed, "closed"),
+        (Drop9::Unauthorised, "unauthorised"),
+    ];
+    for (why, name) in rows {
+        let mut out = Vec::new(rt.alloc());
+        let d = Decided {
+            front: 5,
+            decision: Decision::Drop(why),
+        };
+        print_data(6, &d, &[], &mut out)?;
+        let printed = format!(in rt.alloc(); "d 6 5 drop {name}\n")?;
+        assert_eq!(rt; out.as_slice(), printed.as_bytes());
+    }
+    let mut out = Vec::new(rt.alloc());
+    let d = Decided {
+        front: 6,
+        decision: Decision::Forward {
+            session: 0,
+            vlan: 77,
+        },
+    };
+    print_data(8, &d, &[0xff, 0x81], &mut out)?;
+    assert_eq!(rt; out.as_slice(), b"d 8 6 forward 0 77 ff81\n".as_slice());
+    Ok(())
+}
