@@ -1,2 +1,1 @@
-mod PortLemmas
-mod RecordLemmas
+pub mod PortLemmas

@@ -1,15 +1,16 @@
 // The decision on a data frame.
 ghost use Rattle.std.specs.Prelude.{◌≡◌, ◌≤◌, IfSome, None};
 ghost use Rattle.wire_defs.specs.Ethernet.{eth_of, is_reserved as is_reserved_lem, is_group as is_group_lem};
-ghost use Rattle.switch_defs.specs.Decide.{by_frame as by_frame_lem, by_fields, by_port as by_port_lem};
+ghost use Rattle.history_defs.specs.Decide.{by_frame as by_frame_lem, by_fields, by_port as by_port_lem};
 ghost use Rattle.trace_defs.specs.Output.{forwarded};
 ghost use Rattle.eth_frame.specs.Frame.{fields};
-ghost use Rattle.control_core.specs.Place.{ForwardsInRange, HasVlan};
+ghost use Rattle.control_core.specs.Ranges.{ForwardsInRange, HasVlan};
 
 use arrayvec::ArrayVec;
 use eth_frame::{EthDrop, Frame, parse, write_tagged};
+use history_defs::Port;
 use machine_vars::Control;
-use switch_defs::{Decision, Drop9, Port};
+use switch_event::{Decision, Drop9};
 use wire_core::Mac;
 
 // The first five octets of the sixteen addresses that no bridge forwards.
@@ -20,7 +21,7 @@ const EAPOL: u16 = 0x888e;
 const TAG: u16 = 0x8100;
 
 /// Decides on a data frame on a port. `tagged` is replaced by the frame that goes out, or emptied.
-pub fn decide(port: Option<Port>, octets: &[u8], tagged: &mut ArrayVec<u8, 1522>) -> Decision
+pub fn decide_on(port: Option<Port>, octets: &[u8], tagged: &mut ArrayVec<u8, 1522>) -> Decision
     requires vlan { HasVlan port }
     ensures decision { result ≡ by_frame_lem (eth_of octets.now) port None }
     ensures tagged { tagged.new.items ≡ forwarded result octets.now }

@@ -1,12 +1,10 @@
-//! The sequential authenticator: the ports and their links, what one record of a trace does to them, and the block
-//! that is printed for it.
+//! The sequential authenticator: the ports and their links, what a control event does to them and sends, and what is
+//! decided on a data frame. It knows no text.
 #![tactic(auto)]
 
 mod authenticator;
 mod decision;
-mod entry;
 mod greeting;
 mod ports;
 
 pub use authenticator::Core;
-pub use entry::Entry;

@@ -1,11 +1,10 @@
 // The configured ports as they stand.
 ghost use Rattle.std.specs.Prelude.{◌≡◌, ◌≤◌, ◌==◌, map, find, IfOk, IfSome};
-ghost use Rattle.switch_defs.specs.Switch.{opened_port};
-ghost use Rattle.switch_defs.specs.Turn.{with_link as with_link_lem};
-ghost use Rattle.control_core.specs.Place.{AreVlans};
+ghost use Rattle.history_defs.specs.Switch.{opened_port};
+ghost use Rattle.history_defs.specs.Turn.{with_link as with_link_lem};
 
+use history_defs::Port;
 use std::alloc::{AllocError, Global};
-use switch_defs::Port;
 use switch_event::PortConf;
 
 /// The ports with their links down.

@@ -1,88 +1,81 @@
-ghost use Rattle.std.specs.Prelude.{◌≡◌, ◌≤◌, None};
+// A source and a sink over the streams of the host.
+ghost use Rattle.std.specs.Prelude.{◌≡◌, [], length, IfOk};
+ghost use Rattle.std.specs.Io.{WritesAtMost};
+ghost use Rattle.std.specs.Io.KnownBytes.{WriteAppends, prepend_known};
 
+use crate::ahead::Ahead;
 use crate::{Failed, Sink, Source};
-use std::io::{self, Read, Stderr, Stdout, Write};
+use std::io::{ErrorKind, Read, Write};
 
-const ROOM: usize = 4096;
-
-/// A source over a reader, as standard input. It reads up to 4,096 octets ahead, and tells nothing of them.
+/// A source over a reader, as standard input. It reads up to 4,096 octets ahead. What it has left is what was read ahead
+/// and what the reader has remaining, where the reader tells that. A read that was interrupted is made again; any other
+/// error of the reader is a fault, after which the source goes on where it stood.
 #[derive(Drop)]
 pub struct StdSource<R> {
-    inner: R,
-    ahead: [u8; 4096],
-    at: usize,
-    end: usize,
+    reader: R,
+    ahead: Ahead,
     faults: u64,
-    ghost within: { at ≤ end },
-    ghost filled: { end ≤ 4096 },
 }
 
 impl<R: Read> StdSource<R> {
     /// A source that has read nothing yet.
-    pub fn new(inner: R) -> Self
-        ensures { result.faults ≡ 0 }
+    pub fn new(reader: R) -> Self
+        ensures reader { result.reader ≡ reader }
+        ensures ahead { result.ahead ≡ [] }
+        ensures faults { result.faults ≡ 0 }
     {
         StdSource {
-            inner,
-            ahead: [0; ROOM],
-            at: 0,
-            end: 0,
+            reader,
+            ahead: Ahead::new(),
             faults: 0,
         }
     }
 }
 
 impl<R: Read> Source for StdSource<R> {
-    ghost left = { λ _. None };
+    ghost left = { λ s. prepend_known s.ahead (R.remaining s.reader) };
 
     ghost faults = { λ s. s.faults };
 
     fn read(&mut self, buf: &mut [u8]) -> Result<usize, Failed> {
-        if self.at == self.end {
-            match self.inner.read(&mut self.ahead) {
-                Ok(count) => {
-                    self.at = 0;
-                    self.end = count;
-                }
-                Err(_) => {
-                    self.faults = self.faults.saturating_add(1);
-                    return Err(Failed);
-                }
+        if self.ahead.is_empty() {
+            if let Err(Failed) = self.ahead.fill(&mut self.reader) {
+                self.faults = self.faults.saturating_add(1);
+                return Err(Failed);
             }
         }
-        let rest = &self.ahead[self.at..self.end];
-        let count = rest.len().min(buf.len());
-        buf[..count].copy_from_slice(&rest[..count]);
-        self.at += count;
-        Ok(count)
+        Ok(self.ahead.give(buf))
     }
 }
 
-/// A sink over a writer, as standard output. It tells nothing of what it took.
+/// A sink over a writer, as standard output. What it has taken is what the writer contains, where the writer tells that.
+/// A write that was interrupted is made again; any other error is a fault, and so is a write that takes nothing of a
+/// piece that is not empty.
 #[derive(Drop)]
 pub struct StdSink<W> {
-    inner: W,
+    writer: W,
     faults: u64,
 }
 
 impl<W: Write> StdSink<W> {
-    /// A sink that has taken nothing yet.
-    pub fn new(inner: W) -> Self
-        ensures { result.faults ≡ 0 }
+    /// A sink over a writer as it stands.
+    pub fn new(writer: W) -> Self
+        ensures writer { result.writer ≡ writer }
+        ensures faults { result.faults ≡ 0 }
     {
-        StdSink { inner, faults: 0 }
+        StdSink { writer, faults: 0 }
     }
 }
 
 impl<W: Write> Sink for StdSink<W> {
-    ghost taken = { λ _. None };
+    ghost taken = { λ s. W.contents s.writer };
 
     ghost faults = { λ s. s.faults };
 
     fn write(&mut self, piece: &[u8]) -> Result<usize, Failed> {
-        match self.inner.write(piece) {
-            Ok(count) if count > 0 || piece.is_empty() => Ok(count),
-            _ => {
+        match write_again(&mut self.writer, piece) {
+            Ok(count) => Ok(count),
+            Err(Failed) => {
                 self.faults = self.faults.saturating_add(1);
                 Err(Failed)
             }
@@ -90,27 +83,27 @@ impl<W: Write> Sink for StdSink<W> {
     }
 }
 
-/// Standard output or standard error.
-#[derive(Drop)]
-pub enum StandardStream {
-    /// Standard output.
-    Out(Stdout),
-    /// Standard error.
-    Err(Stderr),
-}
-
-impl Write for StandardStream {
-    fn write(&mut self, buf: &[u8]) -> io::Result<usize> {
-        match self {
-            StandardStream::Out(out) => out.write(buf),
-            StandardStream::Err(err) => err.write(buf),
+// One write, made again where it was interrupted. It fails where it takes nothing of a piece that is not empty.
+fn write_again<W: Write>(writer: &mut W, piece: &[u8]) -> Result<usize, Failed>
+    ensures bound { WritesAtMost result piece.now }
+    ensures octets { WriteAppends (W.contents writer.old) (W.contents writer.new) result piece.now }
+    ensures some { IfOk result (λ n. n ≡ 0 → length piece.now ≡ 0) }
+{
+    for _ in 0..u64::MAX {
+        match writer.write(piece) {
+            Ok(count) => {
+                return if count == 0 && !piece.is_empty() {
+                    Err(Failed)
+                } else {
+                    Ok(count)
+                };
+            }
+            Err(e) => {
+                if e.kind() != ErrorKind::Interrupted {
+                    return Err(Failed);
+                }
+            }
         }
     }
-
-    fn flush(&mut self) -> io::Result<()> {
-        match self {
-            StandardStream::Out(out) => out.flush(),
-            StandardStream::Err(err) => err.flush(),
-        }
-    }
+    Err(Failed)
 }

@@ -1,11 +1,12 @@
 //! The outside of the switch as traits, in memory and over the streams of the host.
 #![tactic(auto)]
 
+mod ahead;
 mod host;
 mod memory;
 mod outside;
 
-pub use host::{StandardStream, StdSink, StdSource};
+pub use host::{StdSink, StdSource};
 pub use memory::{MemSink, MemSource};
 pub use outside::{Failed, Sink, Source};
 

@@ -1,5 +1,7 @@
 // What the objects of the outside give and take, call by call.
 use crate::{Failed, MemSink, MemSource, Sink, Source, StdSink, StdSource};
+use std::alloc::{AllocError, Global};
+use std::io::{self, ErrorKind, Read, Write};
 use std::test::Fail;
 
 #[test]
@@ -29,15 +31,133 @@ fn a_sink_in_memory_takes_whole_pieces_within_its_room(rt: HostRuntime) -> Resul
 }
 
 #[test]
-fn a_reader_and_a_writer_serve_as_source_and_sink(rt: HostRuntime) -> Result<(), Fail> {
+fn a_reader_and_a_writer_in_memory_serve_as_source_and_sink(rt: HostRuntime) -> Result<(), Fail> {
     let mut source = StdSource::new(b"abc".as_slice());
     let mut buf = [0; 2];
     assert_eq!(rt; source.read(&mut buf), Ok(2));
+    assert_eq!(rt; buf, *b"ab");
     assert_eq!(rt; source.read(&mut buf), Ok(1));
     assert_eq!(rt; buf[0], b'c');
     assert_eq!(rt; source.read(&mut buf), Ok(0));
-    let mut sink = StdSink::new(Vec::new(rt.alloc()));
+    let mut written = Vec::new(rt.alloc());
+    let mut sink = StdSink::new(&mut written);
     assert_eq!(rt; sink.write(b"abc"), Ok(3));
     assert_eq!(rt; sink.write(b""), Ok(0));
+    assert_eq!(rt; sink.write(b"d"), Ok(1));
+    assert_eq!(rt; written.as_slice(), b"abcd".as_slice());
+    Ok(())
+}
+
+// What one call of a stream does.
+#[derive(Clone, Copy)]
+enum Step {
+    // It moves at most so many octets.
+    Moves(usize),
+    // It fails for this reason.
+    Fails(ErrorKind),
+}
+
+// A stream whose calls do these steps in order, and then move nothing more. It gives the octet 1, and then each octet 1
+// greater than the one before.
+#[derive(Drop)]
+struct Stream {
+    steps: Vec<Step>,
+    given: u8,
+    written: Vec<u8>,
+}
+
+impl Stream {
+    fn new(alloc: Global, steps: &[Step]) -> Result<Stream, AllocError> {
+        let mut later = steps.to_vec(alloc)?;
+        later.reverse();
+        Ok(Stream {
+            steps: later,
+            given: 0,
+            written: Vec::new(alloc),
+        })
+    }
+
+    fn step(&mut self) -> Step {
+        self.steps.pop().unwrap_or(Step::Moves(0))
+    }
+}
+
+impl Read for Stream {
+    fn read(&mut self, buf: &mut [u8]) -> io::Result<usize> {
+        match self.step() {
+            Step::Fails(kind) => Err(kind.into()),
+            Step::Moves(most) => {
+                let count = most.min(buf.len());
+                for octet in &mut buf[..count] {
+                    self.given = self.given.saturating_add(1);
+                    *octet = self.given;
+                }
+                Ok(count)
+            }
+        }
+    }
+}
+
+impl Write for Stream {
+    fn write(&mut self, piece: &[u8]) -> io::Result<usize> {
+        match self.step() {
+            Step::Fails(kind) => Err(kind.into()),
+            Step::Moves(most) => {
+                let count = most.min(piece.len());
+                self.written.extend_from_slice(&piece[..count])?;
+                Ok(count)
+            }
+        }
+    }
+
+    fn flush(&mut self) -> io::Result<()> {
+        Ok(())
+    }
+}
+
+#[test]
+fn a_reader_that_fails_in_mid_stream_is_a_fault_and_loses_nothing(
+    rt: HostRuntime,
+) -> Result<(), Fail> {
+    let steps = [
+        Step::Moves(3),
+        Step::Fails(ErrorKind::Interrupted),
+        Step::Fails(ErrorKind::Other),
+        Step::Fails(ErrorKind::Interrupted),
+        Step::Moves(2),
+        Step::Moves(0),
+    ];
+    let mut source = StdSource::new(Stream::new(rt.alloc(), &steps)?);
+    let mut buf = [0; 2];
+    assert_eq!(rt; source.read(&mut buf), Ok(2));
+    assert_eq!(rt; buf, [1, 2]);
+    assert_eq!(rt; source.read(&mut buf), Ok(1));
+    assert_eq!(rt; buf[0], 3);
+    assert_eq!(rt; source.read(&mut buf), Err(Failed));
+    assert_eq!(rt; source.read(&mut buf), Ok(2));
+    assert_eq!(rt; buf, [4, 5]);
+    assert_eq!(rt; source.read(&mut buf), Ok(0));
+    Ok(())
+}
+
+#[test]
+fn a_writer_that_fails_or_takes_less_says_so(rt: HostRuntime) -> Result<(), Fail> {
+    let steps = [
+        Step::Moves(2),
+        Step::Fails(ErrorKind::Interrupted),
+        Step::Moves(4),
+        Step::Fails(ErrorKind::BrokenPipe),
+        Step::Moves(0),
+        Step::Moves(1),
+    ];
+    let mut stream = Stream::new(rt.alloc(), &steps)?;
+    let mut sink = StdSink::new(&mut stream);
+    assert_eq!(rt; sink.write(b"abcd"), Ok(2));
+    assert_eq!(rt; sink.write(b"cd"), Ok(2));
+    assert_eq!(rt; sink.write(b"e"), Err(Failed));
+    assert_eq!(rt; sink.write(b"e"), Err(Failed));
+    assert_eq!(rt; sink.write(b"ef"), Ok(1));
+    assert_eq!(rt; sink.write(b"f"), Err(Failed));
+    assert_eq!(rt; stream.written.as_slice(), b"abcde".as_slice());
     Ok(())
 }

@@ -1,25 +1,26 @@
 -- How a run ends, by the text that it was given.
-use Rattle.std.proofs.Common.{inl, inr, ◌≡◌, ◌≢◌, ℕ, ◌+◌, ◌<◌, ◌≤◌, Bool, true, false, not, cond, leb, ltb, eqb, take, List, [], ◌∷◌, ◌++◌, length, length-append, Option, None, Some, IfSome, Ok, Err, refl, sym, ap, ◌∙◌, subst, arith, append_assoc, append-nil}
+use Rattle.std.proofs.Common.{inl, inr, ◌≡◌, ◌≢◌, ℕ, ◌+◌, ◌<◌, ◌≤◌, Bool, true, false, not, cond, leb, ltb, eqb, take, List, [], ◌∷◌, ◌++◌, length, length-append, Option, None, Some, is_some, Ok, Err, refl, sym, ap, ◌∙◌, subst, arith, append_assoc, append-nil}
 use Rattle.std.specs.Io.KnownBytes.{Appends, Keeps, Consumes, IsAtEnd}
 use Rattle.std.proofs.lemmas.Bool.Decides.{nat_tests}
 use Rattle.wire_defs.specs.Text.{last_line}
-use Rattle.wire_defs.proofs.OutsideLemmas.{Appends-kept, Consumes-none, Consumes-trans, Consumes-kept}
+use Rattle.wire_defs.proofs.OutsideLemmas.{Appends-none, Appends-kept, Consumes-none, Consumes-trans, Consumes-kept}
 use Rattle.switch_event.specs.Config.{Config}
 use Rattle.trace_defs.specs.Reading.{HasRead}
-use Rattle.race_run.proofs.StepLemmas.{IsAt-line}
+use Rattle.race_run.proofs.StepLemmas.{IsAt-line, begun_of}
 use Rattle.trace_defs.specs.Trace.{Progress, Stop, fate_of, whole_of, trace_of, read_lines, progress_of, reason_of, start, after_line}
 use Rattle.trace_defs.specs.Trace.Reading.{Going, Stopped}
 use Rattle.trace_defs.specs.Trace.Stop.{Refused as IsRefused, Full as IsFull}
-use Rattle.trace_defs.specs.Output.{plain}
+use Rattle.history_defs.specs.Output.{plain}
 use Rattle.trace_defs.proofs.TraceLemmas.{HasRead-none, HasRead-feed, trace_of-stop, trace_of-long, trace_of-end, read_lines-next, read_lines-stop}
 use Rattle.race_run.specs.declared.run.Run.{Run}
 use Rattle.race_run.specs.declared.ending.Ending.{Ending}
 use Rattle.race_run.specs.declared.ending.Ending.TheVariants.{Done, NoMemory, Refused, ReadFault, WriteFault, Full, TooLong}
-use Rattle.trace_defs.specs.Kept.{kept_of, is_line_feed, len_to_feed}
+use Rattle.trace_defs.specs.Alike.{ReadAlike, is_line_feed, len_to_feed}
 use Rattle.std.specs.List.{before_first}
 use Rattle.std.specs.Prelude.{OnOk, IfErr, Result, option_map}
-use Rattle.trace_defs.proofs.KeptLemmas.{kept_of-none, kept_of-nil}
-use Rattle.race_run.specs.Run.{OfLine, IsAt, EndsByFate, IsRefusedAt, Halts, StopsAtOctet, Steps, EndsTrace, EndsAtEnd, TakesOctet, HasReached, RunEnds, ended}
+use Rattle.trace_defs.proofs.AlikeLemmas.{ReadAlike-none}
+use Rattle.race_run.specs.Ending.{OfText, EndsByFate, IsRefusedAt, TakesEnded, RunEnds}
+use Rattle.race_run.specs.Run.{OfLine, IsAt, Halts, StopsAtOctet, Steps, EndsTrace, EndsAtEnd, TakesOctet, HoldsLine, ended}
 
 -- a trace that a line stops
 pub EndsByFate-stopped : (limit room : ℕ) (config : Config) (text : List ℕ) (origin after : Option (List ℕ)) (p : Progress) (stop : Stop) (status : ℕ)
@@ -53,15 +54,15 @@ IsRefusedAt-line limit room config given rest part p line why read short stops i
     subst (λ text. IsRefusedAt limit room config text line why) (sym (append_assoc given (10 ∷ []) rest))
     (IsRefusedAt-stopped limit room config (given ++ 10 ∷ rest) p line why (trace_of-stop limit room config given rest part p (IsRefused why) read short stops) is)
 
-each : {P : List ℕ → Type 0} (left : Option (List ℕ)) → ((rest : List ℕ) → P rest) → IfSome left P
-each None h = tt
+each : {P : List ℕ → Type 0} (left : Option (List ℕ)) → ((rest : List ℕ) → P rest) → OfText left P
+each None h = ([], h [])
 each (Some rest) h = h rest
 
-none_part : (run : Run) (part : List ℕ) → run.line.text ≡ kept_of part → run.line.text ≡ [] → part ≡ []
-none_part run part kept none = kept_of-nil part (sym kept ∙ none)
+none_part : (run : Run) (part : List ℕ) → ReadAlike run.line.text part → run.line.text ≡ [] → part ≡ []
+none_part run part kept none = kept.none none
 
-some_part : (run : Run) (part : List ℕ) → run.line.text ≡ kept_of part → run.line.text ≢ [] → part ≢ []
-some_part run part kept some = λ none. some (kept ∙ ap kept_of none ∙ kept_of-none)
+some_part : (run : Run) (part : List ℕ) → ReadAlike run.line.text part → run.line.text ≢ [] → part ≢ []
+some_part run part kept some = λ none. some (kept.some none)
 
 -- a line that ends the run, as the octet that ends the line was taken
 pub StopsAtOctet-feed : (room : ℕ) (taken after : Option (List ℕ)) (run : Run) (ending : Ending) → OfLine run (λ line. Halts (λ p. after_line room p line) taken after run ending)
@@ -77,9 +78,18 @@ StopsAtOctet-feed room taken after run Full h = λ limit config origin given p a
     each left (λ rest. EndsByFate-line limit room config given rest read.part origin after p IsFull 6 read.read short ends.0 (λ fits. refl) ends.1)
 StopsAtOctet-feed room taken after run WriteFault h = λ limit config origin given p at read short left.
     let half = h read.part read.kept origin p at in
-    let fed = HasRead-feed room config given p half.0 read.part read.read half.1 in
-    record { p = p; q = half.0; phase = half.2; place = inl (fed.lines, fed.line); part = half.3 }
-StopsAtOctet-feed room taken after run NoMemory h = λ limit config origin given p at read short left. tt
+    record {
+      p = p;
+      place = inl (record { before = given; line = read.part; q = half.0; split = refl; read = read.read; next = half.1; phase = half.2 });
+      part = half.3;
+      short = omega (arith, length-append given (10 ∷ []));
+    }
+StopsAtOctet-feed room taken after run NoMemory h = λ limit config origin given p at read short left. record {
+  p = p;
+  place = inl (record { before = given; last = 10 ∷ []; split = refl; one = omega arith; lines = read.read.lines });
+  output = h read.part read.kept origin p at;
+  short = omega (arith, length-append given (10 ∷ []));
+}
 StopsAtOctet-feed room taken after run Done h = λ limit config origin given p at read short left. absurd (h read.part read.kept)
 StopsAtOctet-feed room taken after run ReadFault h = λ limit config origin given p at read short left. absurd (h read.part read.kept)
 StopsAtOctet-feed room taken after run TooLong h = λ limit config origin given p at read short left. absurd (h read.part read.kept)
@@ -94,17 +104,17 @@ EndsByFate-going limit room config text origin after p fits status e within s ta
       (subst (λ b. Appends origin after (plain p.config (whole_of b (Going p)))) (sym within) taken);
 }
 
-at_end : (P : List ℕ → Type 0) (left : Option (List ℕ)) → IsAtEnd left → P [] → IfSome left P
-at_end P None e h = tt
+at_end : (P : List ℕ → Type 0) (left : Option (List ℕ)) → IsAtEnd left → P [] → OfText left P
+at_end P None e h = ([], h)
 at_end P (Some rest) e h = subst P (sym e) h
 
 fits_within : (n limit : ℕ) → n ≤ limit → leb n limit ≡ true
 fits_within n limit h = grind (arith, nat_tests)
 
 -- a trace without the word that ends the settings
-pub EndsTrace-missing : (room : ℕ) (taken after : Option (List ℕ)) (run : Run) → run.begun ≡ false → Keeps taken after → EndsTrace room taken after run (Refused (run.lines + 1) 13)
+pub EndsTrace-missing : (room : ℕ) (taken after : Option (List ℕ)) (run : Run) → is_some run.switch ≡ false → Keeps taken after → EndsTrace room taken after run (Refused (run.lines + 1) 13)
 EndsTrace-missing room taken after run none kept = λ limit config origin text p at trace short left end.
-    let not_begun : p.begun ≡ false = sym at.begun ∙ none in
+    let not_begun : p.begun ≡ false = sym (begun_of run.switch p at.begun) ∙ none in
     at_end (λ rest. EndsByFate limit room config (text ++ rest) origin after 3 × IsRefusedAt limit room config (text ++ rest) (run.lines + 1) 13) left end
     (subst (λ l. EndsByFate limit room config l origin after 3 × IsRefusedAt limit room config l (run.lines + 1) 13) (sym (append-nil text)) (
       EndsByFate-going limit room config text origin after p true 3 trace (fits_within (length text) limit short) (ap (λ b. cond b 0 3) not_begun)
@@ -113,9 +123,9 @@ EndsTrace-missing room taken after run none kept = λ limit config origin text p
     ))
 
 -- the last phase was ended
-pub EndsTrace-done : (room : ℕ) (taken after : Option (List ℕ)) (old new : Run) → old.begun ≡ true → Steps (λ p. Ok (ended p)) taken after old new → EndsTrace room taken after old Done
+pub EndsTrace-done : (room : ℕ) (taken after : Option (List ℕ)) (old new : Run) → is_some old.switch ≡ true → Steps (λ p. Ok (ended p)) taken after old new → EndsTrace room taken after old Done
 EndsTrace-done room taken after old new begun steps = λ limit config origin text p at trace short left end.
-    let has_begun : p.begun ≡ true = sym at.begun ∙ begun in
+    let has_begun : p.begun ≡ true = sym (begun_of old.switch p at.begun) ∙ begun in
     let step = steps origin p at in
     let same : ended p ≡ step.0 = cc in (
       end,
@@ -136,8 +146,9 @@ EndsTrace-halts room taken after old Full h = λ limit config origin text p at t
     contradiction e = cc
 EndsTrace-halts room taken after old WriteFault h = λ limit config origin text p at trace short left end.
     let half = h origin p at in
-    record { p = p; q = half.0; phase = half.2; place = inr (end, inr trace); part = half.3 }
-EndsTrace-halts room taken after old NoMemory h = λ limit config origin text p at trace short left end. tt
+    record { p = p; place = inr (end, inr trace); part = half.3; short = short }
+EndsTrace-halts room taken after old NoMemory h = λ limit config origin text p at trace short left end.
+    record { p = p; place = inr (end, trace); output = h origin p at; short = short }
 EndsTrace-halts room taken after old Done h = absurd h
 EndsTrace-halts room taken after old ReadFault h = absurd h
 EndsTrace-halts room taken after old TooLong h = absurd h
@@ -178,7 +189,7 @@ a_feed octet n some = step (eqb octet 10) refl
 
 -- a line was ended
 pub TakesOctet-feed : {T E : Type 0} (r : Result T E) (room octet : ℕ) (taken after : Option (List ℕ)) (old mid new : Run) → octet ≡ 10 → mid ≡ record old { line = mid.line }
-    → ((line : List ℕ) → old.line.text ≡ kept_of line → mid.line.text ≡ kept_of line) → OfLine mid (λ line. OnOk r (Steps (λ p. after_line room p line) taken after mid new))
+    → ((line : List ℕ) → ReadAlike old.line.text line → ReadAlike mid.line.text line) → OfLine mid (λ line. OnOk r (Steps (λ p. after_line room p line) taken after mid new))
     → OnOk r (new.line ≡ record { text = []; ended = false }) → OnOk r (TakesOctet room octet taken after old new)
 TakesOctet-feed (Err e) room octet taken after old mid new feed same keeps steps next = tt
 TakesOctet-feed (Ok x) room octet taken after old mid new feed same keeps steps next = λ config origin given p at held.
@@ -187,14 +198,14 @@ TakesOctet-feed (Ok x) room octet taken after old mid new feed same keeps steps 
       step.2,
       record {
         part = [];
-        kept = ap (λ l. l.text) next ∙ sym kept_of-none;
+        kept = subst (λ l. ReadAlike l []) (sym (ap (λ l. l.text) next)) ReadAlike-none;
         read = subst (λ o. HasRead room config (given ++ o ∷ []) step.0 []) (sym feed) (HasRead-feed room config given p step.0 held.part held.read step.1);
       },
     )
 
 -- or it ends the run
 pub StopsAtOctet-fed : {T : Type 0} (r : Result T Ending) (room octet : ℕ) (taken after : Option (List ℕ)) (old mid : Run) → octet ≡ 10 → mid ≡ record old { line = mid.line }
-    → ((line : List ℕ) → old.line.text ≡ kept_of line → mid.line.text ≡ kept_of line) → OfLine mid (λ line. IfErr r (λ e. Halts (λ p. after_line room p line) taken after mid e))
+    → ((line : List ℕ) → ReadAlike old.line.text line → ReadAlike mid.line.text line) → OfLine mid (λ line. IfErr r (λ e. Halts (λ p. after_line room p line) taken after mid e))
     → IfErr r (λ e. StopsAtOctet room octet taken after old e)
 StopsAtOctet-fed (Ok x) room octet taken after old mid feed same keeps halts = tt
 StopsAtOctet-fed (Err e) room octet taken after old mid feed same keeps halts = subst (λ o. StopsAtOctet room o taken after old e) (sym feed) (λ limit config origin given p at held short left.
@@ -240,19 +251,28 @@ EndsAtEnd-halts room taken after run WriteFault some h = λ limit config origin 
     let half = h read.part read.kept origin p at in
     record {
       p = p;
-      q = half.0;
-      phase = half.2;
-      place = inr (
-        end,
-        inl ((trace_of-end limit room config given read.part p read.read short).0 ∙ ap (read_lines room p) (one_line read.part (some_part run read.part read.kept some))
-            ∙ read_lines-next room p half.0 read.part [] half.1),
-      );
+      place = inr (end, inl (record { before = given; line = read.part; q = half.0; split = sym (append-nil given); read = read.read; next = half.1; phase = half.2 }));
       part = half.3;
+      short = short;
     }
-EndsAtEnd-halts room taken after run NoMemory some h = λ limit config origin given p at read short left end. tt
+EndsAtEnd-halts room taken after run NoMemory some h = λ limit config origin given p at read short left end. record {
+  p = p;
+  place = inl (record { before = given; last = []; split = sym (append-nil given); one = omega arith; lines = read.read.lines });
+  output = h read.part read.kept origin p at;
+  short = short;
+}
 EndsAtEnd-halts room taken after run Done some h = λ limit config origin given p at read short left end. absurd (h read.part read.kept)
 EndsAtEnd-halts room taken after run ReadFault some h = λ limit config origin given p at read short left end. absurd (h read.part read.kept)
 EndsAtEnd-halts room taken after run TooLong some h = λ limit config origin given p at read short left end. absurd (h read.part read.kept)
+
+-- a run was given these octets and has not ended
+pub record HasReached (room : ℕ) (config : Config) (before left origin taken : Option (List ℕ)) (count : ℕ) (run : Run) : Type 0 where
+  pub given : List ℕ
+  pub p : Progress
+  pub consumed : Consumes before left given
+  pub counted : length given ≡ count
+  pub at : IsAt origin taken run p
+  pub read : HoldsLine room config given p run
 
 -- at first
 pub HasReached-none : (room : ℕ) (config : Config) (before origin : Option (List ℕ)) (run : Run) → run.line ≡ record { text = []; ended = false } → IsAt origin origin run (start config)
@@ -263,7 +283,7 @@ HasReached-none room config before origin run none at = record {
   consumed = Consumes-none before;
   counted = refl;
   at = at;
-  read = record { part = []; kept = ap (λ l. l.text) none ∙ sym kept_of-none; read = HasRead-none room config };
+  read = record { part = []; kept = subst (λ l. ReadAlike l []) (sym (ap (λ l. l.text) none)) ReadAlike-none; read = HasRead-none room config };
 }
 
 -- after another octet
@@ -308,5 +328,17 @@ pub RunEnds-fault : (limit room : ℕ) (config : Config) (before left rest origi
 RunEnds-fault limit room config before left rest origin taken count run r kept = (
   r.given,
   Consumes-kept before left rest r.given r.consumed kept,
-  subst (λ reading. Appends origin taken (plain (progress_of reading).config (progress_of reading).done)) (sym r.read.read.lines) r.at.written,
+  subst (λ reading. TakesEnded origin taken (progress_of reading)) (sym r.read.read.lines) r.at.written,
+)
+
+pub RunEnds-none : (limit room : ℕ) (config : Config) (before origin : Option (List ℕ)) → RunEnds limit room config before before origin origin NoMemory
+RunEnds-none limit room config before origin = (
+  [],
+  Consumes-none before,
+  record {
+    p = start config;
+    place = inl (record { before = []; last = []; split = refl; one = omega arith; lines = refl });
+    output = Appends-none origin;
+    short = omega arith;
+  },
 )

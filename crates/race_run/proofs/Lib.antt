@@ -1,2 +1,4 @@
-mod FateLemmas
-mod StepLemmas
+pub mod ReadLemmas
+pub mod RecordLemmas
+pub mod StepLemmas
+pub mod FateLemmas

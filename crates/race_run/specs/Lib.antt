@@ -1,2 +1,4 @@
 pub mod Streams
+pub mod Records
+pub mod Ending
 pub mod Run

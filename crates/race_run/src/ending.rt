@@ -1,6 +1,6 @@
 // How a run ends, and the status of the program then.
 ghost use Rattle.std.specs.Prelude.{◌≡◌};
-ghost use Rattle.race_run.specs.Run.{status_of};
+ghost use Rattle.race_run.specs.Ending.{status_of};
 
 use std::alloc::{AllocError, AllocFailed};
 

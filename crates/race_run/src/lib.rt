@@ -3,8 +3,12 @@
 #![tactic(auto)]
 
 mod ending;
+mod entry;
+mod phase;
+mod records;
 mod refusal;
 mod run;
+mod sequential;
 mod streams;
 
 pub use ending::{Ending, status};

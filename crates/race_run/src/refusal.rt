@@ -1,9 +1,9 @@
 // What is said of a status, and of the end of a run, on standard error.
 ghost use Rattle.std.specs.Prelude.{◌≡◌, ◌≢◌, ◌+◌, ◌≤◌, ◌++◌, [], ◌∷◌, length, codes};
-ghost use Rattle.trace_defs.specs.Status.{refusal_text, status_text};
+ghost use Rattle.history_defs.specs.Status.{refusal_text, status_text};
 ghost use Rattle.trace_defs.specs.Reason.{reason_name as reason_name_lem};
 ghost use Rattle.race_run.specs.Streams.{Says};
-ghost use Rattle.race_run.specs.Run.{ending_text};
+ghost use Rattle.race_run.specs.Ending.{ending_text};
 
 use crate::ending::{Ending, status};
 use crate::streams::say;

@@ -1,56 +1,55 @@
-// A run over a source, line by line and phase by phase.
-ghost use Rattle.std.specs.Prelude.{◌≡◌, ◌≢◌, ◌≤◌, ◌<◌, ◌+◌, ◌^◌, ℕ, List, [], Option, OnOk, IfErr, length, IfOk, Ok, true, false};
+// A run over a source, octet by octet and line by line.
+ghost use Rattle.std.specs.Prelude.{◌≡◌, ◌≤◌, ◌<◌, ◌+◌, ◌^◌, ℕ, List, [], Option, OnOk, IfErr, length, IfOk, Ok, false};
 ghost use Rattle.wire_defs.specs.Outside.{Rose};
-ghost use Rattle.trace_defs.specs.Line.Record.{Control as ControlEntry, Data as DataEntry};
-ghost use Rattle.trace_defs.specs.Line.Line.{Begin as IsBegin, Sync as IsSync};
-ghost use Rattle.trace_defs.specs.Trace.{start, after_line, add_line, add_record};
-ghost use Rattle.trace_lang.specs.Event.{event_of};
-ghost use Rattle.switch_event.specs.Config.{ArePorts, HaveVlans};
-ghost use Rattle.race_run.specs.declared.ending.Ending.TheVariants.{ReadFault, WriteFault, NoMemory};
-ghost use Rattle.race_run.specs.Run.{IsAt, IsSound, OfLine, Steps, Halts, HasEndingCause, EndingCause, RunEnds, TakesOctet, StopsAtOctet, EndsAtEnd, EndsTrace, ended};
+ghost use Rattle.trace_defs.specs.Trace.{start, after_line};
+ghost use Rattle.switch_event.specs.Config.{empty};
+ghost use Rattle.race_run.specs.declared.ending.Ending.TheVariants.{ReadFault, WriteFault};
+ghost use Rattle.race_run.specs.Ending.{HasEndingCause, EndingCause, RunEnds};
+ghost use Rattle.race_run.specs.Run.{IsAt, IsSound, OfLine, Steps, Halts, TakesOctet, StopsAtOctet, EndsAtEnd, EndsTrace};
 
 use crate::ending::Ending;
-use crate::streams::{read_octet, write_whole};
-use control_core::{Core, Entry};
+use crate::entry::Entry;
+use crate::sequential::Sequential;
+use crate::streams::read_octet;
 use outside_core::{Failed, Sink, Source};
 use std::alloc::{AllocError, Global};
-use trace_lang::{Config, Line, LineErr, Lines, Octets, Record, read_line};
+use trace_defs::MISSING;
+use trace_lang::{Config, Line, LineErr, Lines, read_line};
 
-// The reason at the end of a text without `begin`.
-const MISSING: u8 = 13;
-
-/// How far a run is: the settings and those that were given, whether they are ended, the lines and control records so
-/// far, the octets of the open line, the records of the open phase, and the authenticator after the phases before it.
+/// How far a run is.
 #[derive(Drop)]
 pub struct Run {
+    /// The settings so far.
     pub config: Config,
+    /// Which of them were given.
     pub given: u32,
-    pub begun: bool,
+    /// The lines that were taken.
     pub lines: u64,
+    /// The control records that were taken.
     pub controls: u64,
+    /// The octets of the open line.
     pub line: Lines,
+    /// The records of the open phase.
     pub records: Vec<Entry>,
-    pub core: Core,
+    /// The authenticator after the phases before it, from the end of the settings on.
+    pub switch: Option<Sequential>,
 }
 
 impl Run {
-    fn start(alloc: Global, config: Config) -> Result<Run, AllocError>
-        requires ports { ArePorts config.ports }
-        requires vlans { HaveVlans config.ports }
-        ensures start { (origin : Option (List ℕ)) → IfOk result (λ run. IsAt origin origin run (start config)) }
+    fn start(alloc: Global) -> Result<Run, AllocError>
+        ensures start { (origin : Option (List ℕ)) → IfOk result (λ run. IsAt origin origin run (start empty)) }
         ensures line { IfOk result (λ run. run.line ≡ record { text = []; ended = false }) }
         ensures sound { IfOk result IsSound }
         ensures lines { IfOk result (λ run. run.lines ≡ 0) }
     {
         Ok(Run {
-            config,
+            config: Config::empty(),
             given: 0,
-            begun: false,
             lines: 0,
             controls: 0,
             line: Lines::open(alloc)?,
             records: Vec::new(alloc),
-            core: Core::empty(alloc),
+            switch: None,
         })
     }
 
@@ -67,7 +66,7 @@ impl Run {
             alloc,
             &mut self.config,
             &mut self.given,
-            self.begun,
+            self.switch.is_some(),
             self.line.line(),
         ) {
             Ok(Line::Blank) => {
@@ -87,93 +86,6 @@ impl Run {
                 line: self.lines + 1,
                 why,
             }),
-        }
-    }
-
-    /// Ends the settings.
-    fn begin(&mut self, alloc: Global) -> Result<(), Ending>
-        requires sound { IsSound self.old }
-        requires short { self.old.lines + 1 < 2 ^ 63 }
-        requires unbegun { self.old.begun ≡ false }
-        ensures ok { (room : ℕ) (taken : Option (List ℕ)) → OnOk result (Steps (λ p. add_line room p (Ok IsBegin)) taken taken self.old self.new) }
-        ensures err { IfErr result (λ e. e ≡ NoMemory) }
-        ensures sound { OnOk result (IsSound self.new × (self.new.lines ≡ self.old.lines + 1)) }
-    {
-        self.core = Core::open(alloc, &self.config)?;
-        self.begun = true;
-        self.lines += 1;
-        Ok(())
-    }
-
-    /// Ends a phase.
-    fn sync<K: Sink>(&mut self, alloc: Global, out: &mut K) -> Result<(), Ending>
-        requires sound { IsSound self.old }
-        requires short { self.old.lines + 1 < 2 ^ 63 }
-        requires begun { self.old.begun ≡ true }
-        ensures ok { (room : ℕ) → OnOk result (Steps (λ p. add_line room p (Ok IsSync)) (K.taken out.old) (K.taken out.new) self.old self.new) }
-        ensures err { (room : ℕ) → IfErr result (λ e. Halts (λ p. add_line room p (Ok IsSync)) (K.taken out.old) (K.taken out.new) self.old e) }
-        ensures cause { HasEndingCause (K.faults out.old) (K.faults out.new) result }
-        ensures sound { OnOk result (IsSound self.new × (self.new.lines ≡ self.old.lines + 1)) }
-    {
-        match self.end_phase(alloc, out) {
-            Ok(()) => {
-                self.lines += 1;
-                Ok(())
-            }
-            Err(ending) => Err(ending),
-        }
-    }
-
-    fn enter_control(&mut self, room: u64, lane: u8, what: Record) -> Result<(), Ending>
-        requires sound { IsSound self.old }
-        requires short { self.old.lines + 1 < 2 ^ 63 }
-        requires begun { self.old.begun ≡ true }
-        ensures ok { (taken : Option (List ℕ)) → OnOk result (Steps (λ p. add_record room p (ControlEntry lane (event_of what))) taken taken self.old self.new) }
-        ensures err { (taken : Option (List ℕ)) → IfErr result (λ e. Halts (λ p. add_record room p (ControlEntry lane (event_of what))) taken taken self.old e) }
-        ensures cause { IfErr result (λ e. (e ≢ ReadFault) × (e ≢ WriteFault)) }
-        ensures sound { OnOk result (IsSound self.new × (self.new.lines ≡ self.old.lines + 1)) }
-    {
-        if self.controls >= room {
-            return Err(Ending::Full);
-        }
-        self.records.push(Entry::Control { lane, what })?;
-        self.controls += 1;
-        self.lines += 1;
-        Ok(())
-    }
-
-    fn enter_data(&mut self, port: u8, octets: Octets) -> Result<(), Ending>
-        requires sound { IsSound self.old }
-        requires short { self.old.lines + 1 < 2 ^ 63 }
-        requires begun { self.old.begun ≡ true }
-        ensures ok { (room : ℕ) (taken : Option (List ℕ)) → OnOk result (Steps (λ p. add_record room p (DataEntry port octets)) taken taken self.old self.new) }
-        ensures err { IfErr result (λ e. e ≡ NoMemory) }
-        ensures sound { OnOk result (IsSound self.new × (self.new.lines ≡ self.old.lines + 1)) }
-    {
-        self.records.push(Entry::Data { port, octets })?;
-        self.lines += 1;
-        Ok(())
-    }
-
-    /// Runs the records of the open phase and writes their blocks.
-    fn end_phase<K: Sink>(&mut self, alloc: Global, out: &mut K) -> Result<(), Ending>
-        requires sound { IsSound self.old }
-        requires short { self.old.lines + 1 < 2 ^ 63 }
-        requires begun { self.old.begun ≡ true }
-        ensures ok { OnOk result (Steps (λ p. Ok (ended p)) (K.taken out.old) (K.taken out.new) self.old self.new) }
-        ensures err { IfErr result (λ e. Halts (λ p. Ok (ended p)) (K.taken out.old) (K.taken out.new) self.old e) }
-        ensures cause { HasEndingCause (K.faults out.old) (K.faults out.new) result }
-        ensures sound { OnOk result (IsSound self.new × (self.new.lines ≡ self.old.lines)) }
-    {
-        let mut text = Vec::new(alloc);
-        self.core
-            .run_records(alloc, &self.config, &self.records, &mut text)?;
-        match write_whole(out, &text) {
-            Ok(()) => {
-                self.records.clear();
-                Ok(())
-            }
-            Err(Failed) => Err(Ending::WriteFault),
         }
     }
 
@@ -242,7 +154,7 @@ impl Run {
         ensures ends { (room : ℕ) → EndsTrace room (K.taken out.old) (K.taken out.new) self.old result }
         ensures cause { EndingCause (K.faults out.old) (K.faults out.new) result }
     {
-        if !self.begun {
+        if self.switch.is_none() {
             return Ending::Refused {
                 line: self.lines + 1,
                 why: MISSING,
@@ -260,19 +172,16 @@ pub fn replay_within<S: Source, K: Sink>(
     alloc: Global,
     limit: usize,
     room: u64,
-    config: Config,
     source: &mut S,
     out: &mut K,
 ) -> Ending
-    requires short { limit < 2 ^ 62 }
-    requires ports { ArePorts config.ports }
-    requires vlans { HaveVlans config.ports }
-    ensures ends { RunEnds limit room config (S.left source.old) (S.left source.new) (K.taken out.old) (K.taken out.new) result }
+    requires { limit < 2 ^ 62 }
+    ensures ends { RunEnds limit room empty (S.left source.old) (S.left source.new) (K.taken out.old) (K.taken out.new) result }
     ensures read { result ≡ ReadFault → Rose (S.faults source.old) (S.faults source.new) }
     ensures write { result ≡ WriteFault → Rose (K.faults out.old) (K.faults out.new) }
     ensures later { (S.faults source.old ≤ S.faults source.new) × (K.faults out.old ≤ K.faults out.new) }
 {
-    let mut run = match Run::start(alloc, config) {
+    let mut run = match Run::start(alloc) {
         Ok(run) => run,
         Err(_) => return Ending::NoMemory,
     };

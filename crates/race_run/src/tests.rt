@@ -2,7 +2,6 @@
 use crate::{Ending, replay_within};
 use outside_core::{MemSink, MemSource};
 use std::test::Fail;
-use trace_lang::Config;
 
 const ROOM: usize = 1 << 16;
 
@@ -18,14 +17,7 @@ fn a_trace_past_its_limits_is_not_run(rt: HostRuntime) -> Result<(), Fail> {
     for (limit, room, ending) in rows {
         let mut source = MemSource::new(rt.alloc(), text, 4096, &[])?;
         let mut out = MemSink::new(rt.alloc(), ROOM, &[])?;
-        let ended = replay_within(
-            rt.alloc(),
-            limit,
-            room,
-            Config::empty(),
-            &mut source,
-            &mut out,
-        );
+        let ended = replay_within(rt.alloc(), limit, room, &mut source, &mut out);
         assert_eq!(rt; ended, ending, "at {limit} {room}");
     }
     Ok(())

@@ -1,70 +1,48 @@
 -- What the end of a run says of a text that the source tells.
-use Rattle.std.proofs.Common.{inl, inr, ◌+◌, ◌≡◌, ℕ, List, ◌++◌, Option, None, Some, IfSome, refl, sym, ap, ◌∙◌, subst, append-nil, arith}
-use Rattle.std.specs.Io.KnownBytes.{Appends, Consumes, IsAtEnd}
+use Rattle.std.proofs.Common.{inl, inr, ◌+◌, ◌≡◌, ℕ, List, ◌++◌, Option, None, Some, refl, sym, ap, ◌∙◌, subst, append-nil, arith}
+use Rattle.std.specs.Io.KnownBytes.{Consumes, IsAtEnd}
 use Rattle.switch_event.specs.Config.{Config}
-use Rattle.trace_defs.specs.Trace.{fate, whole, trace_of, progress_of, reason_of}
-use Rattle.trace_defs.specs.Output.{plain}
+use Rattle.trace_defs.specs.Trace.{progress_of, reason_of, trace_of}
+use Rattle.history_defs.specs.Status.{status_text, refusal_text}
 use Rattle.race_run.specs.declared.ending.Ending.{Ending}
 use Rattle.race_run.specs.declared.ending.Ending.TheVariants.{Done, NoMemory, Refused, ReadFault, WriteFault, Full, TooLong}
-use Rattle.race_run.specs.Run.{IsRefusedAt, EndsByFate, RunEnds, status_of, ending_text}
-use Rattle.trace_defs.specs.Status.{status_text, refusal_text}
+use Rattle.race_run.specs.Ending.{OfText, IsRefusedAt, EndsByFate, TakesGiven, HalfWritten, StopsShort, RunEnds, refusal_of, status_of, ending_text}
 use Rattle.race_run.specs.Streams.{Says}
-use Rattle.switch_run.specs.Top.{IsByText, IsStatus}
+use Rattle.switch_run.specs.Top.{IsByText, IsStatus, OfGiven}
 
 -- the octets given and those left are the text
-pub told : (P : List ℕ → Type 0) (before left : Option (List ℕ)) (given : List ℕ) → Consumes before left given → IfSome left (λ rest. P (given ++ rest)) → IfSome before P
-told P None left given c h = tt
+told : (P : List ℕ → Type 0) (before left : Option (List ℕ)) (given : List ℕ) → Consumes before left given → OfText left (λ rest. P (given ++ rest)) → OfText before P
+told P None None given c h = (given ++ h.0, h.1)
+told P None (Some rest) given c h = (given ++ rest, h)
 told P (Some b) None given c h = absurd c
 told P (Some b) (Some rest) given c h = subst P (sym c) h
 
-told_whole : (P : List ℕ → Type 0) (before left : Option (List ℕ)) (given : List ℕ) → Consumes before left given → IsAtEnd left → P given → IfSome before P
-told_whole P None left given c e h = tt
+told_whole : (P : List ℕ → Type 0) (before left : Option (List ℕ)) (given : List ℕ) → Consumes before left given → IsAtEnd left → P given → OfText before P
+told_whole P None left given c e h = (given, h)
 told_whole P (Some b) None given c e h = absurd c
 told_whole P (Some b) (Some rest) given c e h = subst P (sym (c ∙ ap (λ l. given ++ l) e ∙ append-nil given)) h
 
-first_of_two : (P Q : List ℕ → Type 0) (left : Option (List ℕ)) → IfSome left (λ rest. P rest × Q rest) → IfSome left P
-first_of_two P Q None h = tt
-first_of_two P Q (Some rest) h = h.0
+each_text : {P Q : List ℕ → Type 0} (left : Option (List ℕ)) → ((text : List ℕ) → P text → Q text) → OfText left P → OfText left Q
+each_text None f h = (h.0, f h.0 h.1)
+each_text (Some text) f h = f text h
 
-second_of_two : (P Q : List ℕ → Type 0) (left : Option (List ℕ)) → IfSome left (λ rest. P rest × Q rest) → IfSome left Q
-second_of_two P Q None h = tt
-second_of_two P Q (Some rest) h = h.1
-
-pub by_text : (limit room : ℕ) (config : Config) (before left origin after : Option (List ℕ)) (ending : Ending) → RunEnds limit room config before left origin after ending
-    → IsByText (status_of ending) → IfSome before (λ b. EndsByFate limit room config b origin after (status_of ending))
+by_text : (limit room : ℕ) (config : Config) (before left origin after : Option (List ℕ)) (ending : Ending) → RunEnds limit room config before left origin after ending
+    → IsByText (status_of ending) → OfText before (λ b. EndsByFate limit room config b origin after (status_of ending))
 by_text limit room config before left origin after Done r s = told_whole (λ b. EndsByFate limit room config b origin after 0) before left r.0 r.1 r.2.0 r.2.1
 by_text limit room config before left origin after (Refused line why) r s =
-    told (λ b. EndsByFate limit room config b origin after 3) before left r.0 r.1 (first_of_two _ _ left r.2)
+    told (λ b. EndsByFate limit room config b origin after 3) before left r.0 r.1 (each_text left (λ rest h. h.0) r.2)
 by_text limit room config before left origin after Full r s = told (λ b. EndsByFate limit room config b origin after 6) before left r.0 r.1 r.2
 by_text limit room config before left origin after TooLong r s = told (λ b. EndsByFate limit room config b origin after 8) before left r.0 r.1 r.2
 by_text limit room config before left origin after NoMemory r s = absurd (grind arith)
 by_text limit room config before left origin after ReadFault r s = absurd (grind arith)
 by_text limit room config before left origin after WriteFault r s = absurd (grind arith)
 
-pub ends_by_text : (limit room : ℕ) (config want : Config) (before left origin after : Option (List ℕ)) (ending : Ending) (status : ℕ)
-    → RunEnds limit room config before left origin after ending → config ≡ want → status ≡ status_of ending → IsByText status
-    → IfSome before (λ b. EndsByFate limit room want b origin after status)
-ends_by_text limit room config want before left origin after ending status r same e s =
-    subst (λ n. IfSome before (λ b. EndsByFate limit room want b origin after n)) (sym e)
-    (by_text limit room want before left origin after ending (subst (λ c. RunEnds limit room c before left origin after ending) same r) (subst IsByText e s))
-
-pub fate_by_text : (limit room : ℕ) (want : Config) (origin after before : Option (List ℕ)) (status : ℕ)
-    → IfSome before (λ b. EndsByFate limit room want b origin after status) → IfSome before (λ b. fate limit room want b ≡ status)
-fate_by_text limit room want origin after None status h = tt
-fate_by_text limit room want origin after (Some b) status h = h.fated
-
-pub output_by_text : (limit room : ℕ) (want : Config) (origin after before : Option (List ℕ)) (status : ℕ)
-    → IfSome before (λ b. EndsByFate limit room want b origin after status)
-    → IfSome before (λ b. Appends origin after (plain (progress_of (trace_of limit room want b)).config (whole limit room want b)))
-output_by_text limit room want origin after None status h = tt
-output_by_text limit room want origin after (Some b) status h = h.output
-
--- what is said of a line that was refused
-pub refused_at : (limit room : ℕ) (config want : Config) (before left origin after : Option (List ℕ)) (line why : ℕ) → RunEnds limit room config before left origin after (Refused line why) → config ≡ want
-    → IfSome before (λ b. IsRefusedAt limit room want b line why)
-refused_at limit room config want before left origin after line why r same =
-    subst (λ c. IfSome before (λ b. IsRefusedAt limit room c b line why)) same
-    (told (λ b. IsRefusedAt limit room config b line why) before left r.0 r.1 (second_of_two _ _ left r.2))
+pub ends_by_text : (limit room : ℕ) (config : Config) (before left origin after : Option (List ℕ)) (ending : Ending) (status : ℕ)
+    → RunEnds limit room config before left origin after ending → status ≡ status_of ending → IsByText status
+    → OfText before (λ b. EndsByFate limit room config b origin after status)
+ends_by_text limit room config before left origin after ending status r e s =
+    subst (λ n. OfText before (λ b. EndsByFate limit room config b origin after n)) (sym e)
+    (by_text limit room config before left origin after ending r (subst IsByText e s))
 
 -- what is said of any other status
 pub said_of : (old new : Option (List ℕ)) (before now : ℕ) (ending : Ending) (status : ℕ) → Says old new before now (ending_text ending) → status ≡ status_of ending → (status ≡ 3 → ⊥)
@@ -77,27 +55,28 @@ said_of old new before now WriteFault status said is other = subst (λ n. Says o
 said_of old new before now Full status said is other = subst (λ n. Says old new before now (status_text n)) (sym is) said
 said_of old new before now TooLong status said is other = subst (λ n. Says old new before now (status_text n)) (sym is) said
 
-abbrev Refuses : ℕ → ℕ → Config → Option (List ℕ) → Option (List ℕ) → ℕ → ℕ → List ℕ → Type 0
-Refuses limit room want old new before now text =
-    Says old new before now (refusal_text ((progress_of (trace_of limit room want text)).lines + 1) (reason_of (trace_of limit room want text)))
+-- what is said of a line that was refused
+abbrev SaysRefusal : ℕ → ℕ → Config → Option (List ℕ) → Option (List ℕ) → ℕ → ℕ → List ℕ → Type 0
+SaysRefusal limit room want old new before now text = Says old new before now (refusal_of limit room want text)
 
-named : (limit room : ℕ) (want : Config) (old new : Option (List ℕ)) (before now line why : ℕ) (left : Option (List ℕ)) → Says old new before now (refusal_text line why)
-    → IfSome left (λ b. IsRefusedAt limit room want b line why) → IfSome left (Refuses limit room want old new before now)
-named limit room want old new before now line why None said at = tt
-named limit room want old new before now line why (Some b) said at =
-    subst (λ n. Says old new before now (refusal_text n (reason_of (trace_of limit room want b)))) at.line_is (subst (λ n. Says old new before now (refusal_text line n)) at.why_is said)
+named : (limit room : ℕ) (want : Config) (old new : Option (List ℕ)) (before now line why : ℕ) → Says old new before now (refusal_text line why)
+    → (text : List ℕ) → IsRefusedAt limit room want text line why → SaysRefusal limit room want old new before now text
+named limit room want old new before now line why said text at =
+    subst (λ n. Says old new before now (refusal_text n (reason_of (trace_of limit room want text)))) at.line_is
+    (subst (λ n. Says old new before now (refusal_text line n)) at.why_is said)
 
-pub refused_of : (limit room : ℕ) (config want : Config) (text left origin after old new : Option (List ℕ)) (before now : ℕ) (ending : Ending) (status : ℕ)
-    → RunEnds limit room config text left origin after ending → config ≡ want → Says old new before now (ending_text ending) → status ≡ status_of ending → status ≡ 3
-    → IfSome text (Refuses limit room want old new before now)
-refused_of limit room config want text left origin after old new before now (Refused line why) status r same said is three =
-    named limit room want old new before now line why text said (refused_at limit room config want text left origin after line why r same)
-refused_of limit room config want text left origin after old new before now Done status r same said is three = absurd (omega arith)
-refused_of limit room config want text left origin after old new before now NoMemory status r same said is three = absurd (omega arith)
-refused_of limit room config want text left origin after old new before now ReadFault status r same said is three = absurd (omega arith)
-refused_of limit room config want text left origin after old new before now WriteFault status r same said is three = absurd (omega arith)
-refused_of limit room config want text left origin after old new before now Full status r same said is three = absurd (omega arith)
-refused_of limit room config want text left origin after old new before now TooLong status r same said is three = absurd (omega arith)
+pub refused_of : (limit room : ℕ) (config : Config) (text left origin after old new : Option (List ℕ)) (before now : ℕ) (ending : Ending) (status : ℕ)
+    → RunEnds limit room config text left origin after ending → Says old new before now (ending_text ending) → status ≡ status_of ending → status ≡ 3
+    → OfText text (SaysRefusal limit room config old new before now)
+refused_of limit room config text left origin after old new before now (Refused line why) status r said is three =
+    told (SaysRefusal limit room config old new before now) text left r.0 r.1
+    (each_text left (λ rest h. named limit room config old new before now line why said (r.0 ++ rest) h.1) r.2)
+refused_of limit room config text left origin after old new before now Done status r said is three = absurd (omega arith)
+refused_of limit room config text left origin after old new before now NoMemory status r said is three = absurd (omega arith)
+refused_of limit room config text left origin after old new before now ReadFault status r said is three = absurd (omega arith)
+refused_of limit room config text left origin after old new before now WriteFault status r said is three = absurd (omega arith)
+refused_of limit room config text left origin after old new before now Full status r said is three = absurd (omega arith)
+refused_of limit room config text left origin after old new before now TooLong status r said is three = absurd (omega arith)
 
 pub is_status : (ending : Ending) → IsStatus (status_of ending)
 is_status Done = inl (inl refl)
@@ -133,3 +112,17 @@ by_text_else status (inr (inl e)) memory words reads writes = absurd (memory e)
 by_text_else status (inr (inr (inl e))) memory words reads writes = absurd (words e)
 by_text_else status (inr (inr (inr (inl e)))) memory words reads writes = absurd (reads e)
 by_text_else status (inr (inr (inr (inr e)))) memory words reads writes = absurd (writes e)
+
+pub memory_only : (ending : Ending) → status_of ending ≡ 1 → ending ≡ NoMemory
+memory_only NoMemory is = refl
+memory_only Done is = absurd (omega arith)
+memory_only ReadFault is = absurd (omega arith)
+memory_only (Refused line why) is = absurd (omega arith)
+memory_only WriteFault is = absurd (omega arith)
+memory_only Full is = absurd (omega arith)
+memory_only TooLong is = absurd (omega arith)
+
+-- an ending that is known
+pub ends_so : (limit room : ℕ) (config : Config) (before left origin after : Option (List ℕ)) (ending known : Ending)
+    → RunEnds limit room config before left origin after ending → ending ≡ known → RunEnds limit room config before left origin after known
+ends_so limit room config before left origin after ending known r is = subst (RunEnds limit room config before left origin after) is r

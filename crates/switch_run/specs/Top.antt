@@ -1,10 +1,7 @@
 -- What the contract of the top call cites.
-use Rattle.std.specs.Prelude.{◌≡◌, ℕ, ◌∷◌, [], ◌⊎◌, List, Bool, false, codes}
+use Rattle.std.specs.Prelude.{◌≡◌, ℕ, ◌∷◌, [], ◌⊎◌, List, Option, Bool, false, codes}
 use Rattle.std.specs.Str.{bytes_eq}
-use Rattle.switch_event.specs.Config.{Config}
-use Rattle.trace_defs.specs.Reading.{ended_reading}
-use Rattle.trace_defs.specs.Trace.{progress_of}
-use Rattle.trace_defs.specs.Output.{plain}
+use Rattle.std.specs.Io.KnownBytes.{Consumes}
 
 -- the words are those of a replay
 abbrev pub is_replay : List (List ℕ) → Bool
@@ -20,6 +17,6 @@ IsByText status = (status ≡ 0) ⊎ (status ≡ 3) ⊎ (status ≡ 6) ⊎ (stat
 abbrev pub IsStatus : ℕ → Type 0
 IsStatus status = IsByText status ⊎ (status ≡ 1) ⊎ (status ≡ 2) ⊎ (status ≡ 4) ⊎ (status ≡ 5)
 
--- the output of the phases whose last line ended in the octets
-abbrev pub ended_output : ℕ → Config → List ℕ → List ℕ
-ended_output room config given = plain (progress_of (ended_reading room config given)).config (progress_of (ended_reading room config given)).done
+-- this holds of the octets that a source gave
+abbrev pub OfGiven : Option (List ℕ) → Option (List ℕ) → (List ℕ → Type 0) → Type 0
+OfGiven before left P = (given : List ℕ) × Consumes before left given × P given

@@ -4,31 +4,23 @@
 #[cfg(test)]
 mod tests;
 mod top;
+mod words;
 
-use outside_core::{StandardStream, StdSink, StdSource};
+use either::Either;
+use outside_core::{StdSink, StdSource};
+use race_run::{Ending, say_ending, status};
 use std::process::ExitCode;
-use std::{env, io};
 use top::switch_top;
+use words::{command_line, without_name};
 
 fn main(rt: HostRuntime) -> ExitCode {
     let mut source = StdSource::new(rt.stdin());
-    let mut out = StdSink::new(StandardStream::Out(rt.stdout()));
-    let mut err = StdSink::new(StandardStream::Err(rt.stderr()));
-    ExitCode::from(switch_top(rt.alloc(), &words(&rt), &mut source, &mut out, &mut err))
-}
-
-// The words of the command line, or none where they are no text.
-fn words(rt: &HostRuntime) -> Vec<String> {
-    match all_words(rt) {
-        Ok(words) => words,
-        Err(_) => Vec::new(rt.alloc()),
-    }
-}
-
-fn all_words(rt: &HostRuntime) -> io::Result<Vec<String>> {
-    let mut words = Vec::new(rt.alloc());
-    for word in env::args(rt)?.skip(1) {
-        words.push(word)?;
-    }
-    Ok(words)
+    let mut out = StdSink::new(Either::Left(rt.stdout()));
+    let mut err = StdSink::new(Either::Right(rt.stderr()));
+    let Ok(line) = command_line(&rt) else {
+        say_ending(&mut err, Ending::NoMemory);
+        return ExitCode::from(status(Ending::NoMemory));
+    };
+    let words = without_name(&line);
+    ExitCode::from(switch_top(rt.alloc(), words, &mut source, &mut out, &mut err))
 }

@@ -1,9 +1,11 @@
 // What the program prints for whole traces, and where the outside fails.
-ghost use Rattle.std.specs.Prelude.{◌≤◌};
+ghost use Rattle.std.specs.Prelude.{◌≤◌, None};
 
 use crate::top::switch_top;
-use outside_core::{MemSink, MemSource};
+use crate::words::without_name;
+use outside_core::{Failed, MemSink, MemSource, Sink, Source};
 use std::alloc::{AllocError, Global};
+use std::cell::Cell;
 use std::test::Fail;
 
 const ROOM: usize = 1 << 16;
@@ -17,6 +19,12 @@ struct Ran {
     status: u8,
     out: Vec<u8>,
     err: Vec<u8>,
+}
+
+fn replay(alloc: Global) -> Result<Vec<String>, AllocError> {
+    let mut words = Vec::new(alloc);
+    words.push(String::from_str(alloc, "replay")?)?;
+    Ok(words)
 }
 
 fn run(rt: &HostRuntime, words: &[&str], text: &[u8], step: usize) -> Result<Ran, AllocError>
@@ -160,29 +168,167 @@ fn a_refused_line_has_its_number_and_the_phases_before_it_stand(
     Ok(())
 }
 
+// Two phases; the second ends with the text.
+const TWO_PHASES: &str = "link 1 up\nsync\nlink 3 up\n";
+
+const FIRST_BLOCK: &str = "c 1 @1 0 ok\nf 1 0180c2000003020000010101888e020000050100000501\n";
+
 #[test]
-fn a_source_or_a_sink_that_fails_ends_the_run(rt: HostRuntime) -> Result<(), Fail> {
-    let text = format!(in rt.alloc(); "{SETTINGS}link 1 up\n")?;
-    let mut words = Vec::new(rt.alloc());
-    words.push(String::from_str(rt.alloc(), "replay")?)?;
-    for (source_fails, out_fails, status, said) in [
-        (true, false, 4, "read fault\n"),
-        (false, true, 5, "write fault\n"),
-    ] {
-        let first = [0];
-        let none = [];
-        let mut source = MemSource::new(
-            rt.alloc(),
-            text.as_bytes(),
-            1,
-            if source_fails { &first } else { &none },
-        )?;
-        let mut out = MemSink::new(rt.alloc(), ROOM, if out_fails { &first } else { &none })?;
+fn a_source_that_fails_leaves_the_phases_before(rt: HostRuntime) -> Result<(), Fail> {
+    let text = format!(in rt.alloc(); "{SETTINGS}{TWO_PHASES}")?;
+    let first_phase = SETTINGS.len() as u64 + 15;
+    let rows = [
+        (0, ""),
+        (first_phase - 1, ""),
+        (first_phase, FIRST_BLOCK),
+        (first_phase + 10, FIRST_BLOCK),
+    ];
+    for (call, printed) in rows {
+        let mut source = MemSource::new(rt.alloc(), text.as_bytes(), 1, &[call])?;
+        let mut out = MemSink::new(rt.alloc(), ROOM, &[])?;
         let mut err = MemSink::new(rt.alloc(), ROOM, &[])?;
-        let ended = switch_top(rt.alloc(), &words, &mut source, &mut out, &mut err);
-        assert_eq!(rt; ended, status);
-        assert_eq!(rt; out.taken(), b"".as_slice());
-        assert_eq!(rt; err.taken(), said.as_bytes());
+        let words = replay(rt.alloc())?;
+        let status = switch_top(rt.alloc(), &words, &mut source, &mut out, &mut err);
+        assert_eq!(rt; status, 4, "at {call}");
+        assert_eq!(rt; out.taken(), printed.as_bytes(), "at {call}");
+        assert_eq!(rt; err.taken(), b"read fault\n".as_slice(), "at {call}");
+    }
+    Ok(())
+}
+
+#[test]
+fn a_sink_that_fails_leaves_all_that_follows_the_phase(rt: HostRuntime) -> Result<(), Fail> {
+    let text = format!(in rt.alloc(); "{SETTINGS}{TWO_PHASES}")?;
+    let rows: [(u64, &str, &str); 2] = [(0, "", "link 3 up\n"), (1, FIRST_BLOCK, "")];
+    for (call, printed, left) in rows {
+        let mut source = MemSource::new(rt.alloc(), text.as_bytes(), 4096, &[])?;
+        let mut out = MemSink::new(rt.alloc(), ROOM, &[call])?;
+        let mut err = MemSink::new(rt.alloc(), ROOM, &[])?;
+        let words = replay(rt.alloc())?;
+        let status = switch_top(rt.alloc(), &words, &mut source, &mut out, &mut err);
+        assert_eq!(rt; status, 5, "at {call}");
+        assert_eq!(rt; out.taken(), printed.as_bytes(), "at {call}");
+        assert_eq!(rt; err.taken(), b"write fault\n".as_slice(), "at {call}");
+        let mut rest = [0; 64];
+        assert_eq!(rt; source.read(&mut rest), Ok(left.len()), "at {call}");
+        assert_eq!(rt; &rest[..left.len()], left.as_bytes(), "at {call}");
+    }
+    Ok(())
+}
+
+#[test]
+fn a_sink_without_room_for_a_block_fails(rt: HostRuntime) -> Result<(), Fail> {
+    let text = format!(in rt.alloc(); "{SETTINGS}{TWO_PHASES}")?;
+    let mut source = MemSource::new(rt.alloc(), text.as_bytes(), 4096, &[])?;
+    let mut out = MemSink::new(rt.alloc(), FIRST_BLOCK.len() + 1, &[])?;
+    let mut err = MemSink::new(rt.alloc(), 5, &[])?;
+    let words = replay(rt.alloc())?;
+    let status = switch_top(rt.alloc(), &words, &mut source, &mut out, &mut err);
+    assert_eq!(rt; status, 5);
+    assert_eq!(rt; out.taken(), FIRST_BLOCK.as_bytes());
+    assert_eq!(rt; err.taken(), b"".as_slice());
+    Ok(())
+}
+
+// The record that a source and a sink share: the octets that were given so far, and how many they were at each write.
+#[derive(Drop)]
+struct Shared {
+    given: Cell<u64>,
+    first_write: Cell<u64>,
+    writes: Cell<u64>,
+}
+
+#[derive(Drop)]
+struct SharedSource<'a> {
+    shared: &'a Shared,
+    text: &'a [u8],
+}
+
+impl Source for SharedSource<'_> {
+    ghost left = { λ _. None };
+
+    ghost faults = { λ _. 0 };
+
+    fn read(&mut self, buf: &mut [u8]) -> Result<usize, Failed> {
+        let count = self.text.len().min(buf.len());
+        buf[..count].copy_from_slice(&self.text[..count]);
+        self.text = &self.text[count..];
+        self.shared
+            .given
+            .set(self.shared.given.get().saturating_add(count as u64));
+        Ok(count)
+    }
+}
+
+#[derive(Drop)]
+struct SharedSink<'a> {
+    shared: &'a Shared,
+}
+
+impl Sink for SharedSink<'_> {
+    ghost taken = { λ _. None };
+
+    ghost faults = { λ _. 0 };
+
+    fn write(&mut self, piece: &[u8]) -> Result<usize, Failed> {
+        if self.shared.writes.get() == 0 {
+            self.shared.first_write.set(self.shared.given.get());
+        }
+        self.shared
+            .writes
+            .set(self.shared.writes.get().saturating_add(1));
+        Ok(piece.len())
+    }
+}
+
+#[test]
+fn the_first_phase_is_written_before_an_octet_of_the_second_is_given(
+    rt: HostRuntime,
+) -> Result<(), Fail> {
+    let text = format!(in rt.alloc(); "{SETTINGS}{TWO_PHASES}")?;
+    let shared = Shared {
+        given: Cell::new(0),
+        first_write: Cell::new(0),
+        writes: Cell::new(0),
+    };
+    let mut source = SharedSource {
+        shared: &shared,
+        text: text.as_bytes(),
+    };
+    let mut out = SharedSink { shared: &shared };
+    let unused = Shared {
+        given: Cell::new(0),
+        first_write: Cell::new(0),
+        writes: Cell::new(0),
+    };
+    let mut err = SharedSink { shared: &unused };
+    let words = replay(rt.alloc())?;
+    let status = switch_top(rt.alloc(), &words, &mut source, &mut out, &mut err);
+    assert_eq!(rt; status, 0);
+    assert_eq!(rt; shared.first_write.get(), SETTINGS.len() as u64 + 15);
+    assert_eq!(rt; shared.given.get(), text.len() as u64);
+    assert_eq!(rt; shared.writes.get(), 2);
+    assert_eq!(rt; unused.writes.get(), 0);
+    Ok(())
+}
+
+#[test]
+fn octets_past_the_limit_of_a_word_are_refused(rt: HostRuntime) -> Result<(), Fail> {
+    let rows: [(&str, usize, usize, &str); 4] = [
+        ("frame 2 ", 2000, 0, ""),
+        ("frame 2 ", 2001, 3, "line 8: hex\n"),
+        ("radius ", 5000, 3, "line 8: unbuilt\n"),
+        ("radius ", 5001, 3, "line 8: hex\n"),
+    ];
+    for (word, octets, status, said) in rows {
+        let mut line = String::new(rt.alloc());
+        for _ in 0..octets {
+            line.push_str("00")?;
+        }
+        let text = format!(in rt.alloc(); "{SETTINGS}{word}{line}\n")?;
+        let ran = run(&rt, &["replay"], text.as_bytes(), 4096)?;
+        assert_eq!(rt; usize::from(ran.status), status, "at {word}{octets}");
+        assert_eq!(rt; ran.err.as_slice(), said.as_bytes(), "at {word}{octets}");
     }
     Ok(())
 }
@@ -211,23 +357,41 @@ fn repeated(alloc: Global, line: &str, count: u32) -> Result<Vec<u8>, AllocError
     Ok(text)
 }
 
+// The settings, and then a comment, of so many octets.
+fn commented(alloc: Global, octets: usize) -> Result<Vec<u8>, AllocError> {
+    let mut text = SETTINGS.as_bytes().to_vec(alloc)?;
+    text.resize(octets, b'#')?;
+    Ok(text)
+}
+
 #[test]
-fn a_history_and_a_text_have_their_limits(rt: HostRuntime) -> Result<(), Fail> {
-    let rows = [
-        ("link 1 up\n", 1_048_577, 6, "full: 1048576\n"),
-        (
-            "# a comment of thirty-two octets\n",
-            2_033_601,
-            8,
-            "too long: 67108864\n",
-        ),
-    ];
-    for (line, count, status, said) in rows {
-        let text = repeated(rt.alloc(), line, count)?;
-        let ran = run(&rt, &["replay"], &text, 4096)?;
-        assert_eq!(rt; ran.status, status, "at {said}");
-        assert_eq!(rt; ran.out.as_slice(), b"".as_slice(), "at {said}");
-        assert_eq!(rt; ran.err.as_slice(), said.as_bytes(), "at {said}");
-    }
+fn a_history_has_its_limit(rt: HostRuntime) -> Result<(), Fail> {
+    let text = repeated(rt.alloc(), "link 1 up\n", 1_048_577)?;
+    let ran = run(&rt, &["replay"], &text, 4096)?;
+    assert_eq!(rt; ran.status, 6);
+    assert_eq!(rt; ran.out.as_slice(), b"".as_slice());
+    assert_eq!(rt; ran.err.as_slice(), b"full: 1048576\n".as_slice());
+    Ok(())
+}
+
+#[test]
+fn a_comment_of_one_octet_too_many_is_too_long(rt: HostRuntime) -> Result<(), Fail> {
+    let text = commented(rt.alloc(), 67_108_865)?;
+    assert_eq!(rt; text.len(), 67_108_865);
+    let ran = run(&rt, &["replay"], &text, 4096)?;
+    assert_eq!(rt; ran.status, 8);
+    assert_eq!(rt; ran.out.as_slice(), b"".as_slice());
+    assert_eq!(rt; ran.err.as_slice(), b"too long: 67108864\n".as_slice());
+    Ok(())
+}
+
+#[test]
+fn the_words_are_those_after_the_name(rt: HostRuntime) -> Result<(), Fail> {
+    let mut line = replay(rt.alloc())?;
+    assert_eq!(rt; without_name(&line).len(), 0);
+    line.push(String::from_str(rt.alloc(), "trace")?)?;
+    assert_eq!(rt; without_name(&line).len(), 1);
+    assert_eq!(rt; without_name(&line)[0].as_str(), "trace");
+    assert_eq!(rt; without_name(&[]).len(), 0);
     Ok(())
 }

@@ -1,4 +1,4 @@
-use Rattle.switch_defs.specs.Turn.{with_link}
+use Rattle.history_defs.specs.Turn.{with_link}
 use Rattle.control_core.proofs.PortLemmas.{written_over}
 use Rattle.control_core.proofs.ports.set_link.Goals as goal
 

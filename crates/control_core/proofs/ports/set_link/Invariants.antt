@@ -1,5 +1,5 @@
 use Rattle.std.proofs.Common.{◌≡◌, ◌++◌, map, take, drop}
-use Rattle.switch_defs.specs.Turn.{with_link}
+use Rattle.history_defs.specs.Turn.{with_link}
 use Rattle.control_core.proofs.ports.set_link.Given as goal
 
 abbrev pub invariant-loop-p : goal.invariant-loop-p

@@ -1,5 +1,6 @@
 use Rattle.std.proofs.Common.{arith, ap}
-use Rattle.race_run.proofs.FateLemmas.{HasReached-none, HasReached-more, RunEnds-end, RunEnds-octet, RunEnds-long}
+use Rattle.switch_event.specs.Config.{empty}
+use Rattle.race_run.proofs.FateLemmas.{HasReached-none, HasReached-more, RunEnds-end, RunEnds-octet, RunEnds-long, RunEnds-none}
 use Rattle.race_run.proofs.run.replay_within.Goals as goal
 
 pub octets-init : goal.octets-init
@@ -8,7 +9,7 @@ octets-init g c = record {
   lines = omega (arith, c.in-Ok.ensures.lines);
   sound = c.in-Ok.ensures.sound;
   line = ap (λ l. l.ended) c.in-Ok.ensures.line;
-  reached = HasReached-none c.args.room c.args.config _ _ c.in-Ok.run' c.in-Ok.ensures.line (c.in-Ok.ensures.start _);
+  reached = HasReached-none c.args.room empty _ _ c.in-Ok.run' c.in-Ok.ensures.line (c.in-Ok.ensures.start _);
   source_later = omega arith;
   out_later = omega arith;
 }
@@ -16,18 +17,18 @@ octets-init g c = record {
 pub returns-in-Ok-None-clause-ends : goal.returns-in-Ok-None-clause-ends
 returns-in-Ok-None-clause-ends g c =
     let none = rw c.in-Ok-None.field-0-is at c.in-Ok-None.ensures.octets in
-    RunEnds-end c.args.limit c.args.room c.args.config _ _ _ _ _ _ c.octets.count c.octets.run c.finish.result c.octets.invariant.reached c.octets.invariant.within none.0 none.1
+    RunEnds-end c.args.limit c.args.room empty _ _ _ _ _ _ c.octets.count c.octets.run c.finish.result c.octets.invariant.reached c.octets.invariant.within none.0 none.1
     c.finish.ensures.ends
 
 pub returns-then-count-limit-clause-ends : goal.returns-then-count-limit-clause-ends
 returns-then-count-limit-clause-ends g c =
     let one = rw c.in-Ok-Some.field-0-is at c.in-Ok-Some.ensures.octets in
-    RunEnds-long c.args.limit c.args.room c.args.config _ _ _ _ _ c.octets.count c.in-Ok-Some.octet c.octets.run c.octets.invariant.reached c.if-count-limit.true one
+    RunEnds-long c.args.limit c.args.room empty _ _ _ _ _ c.octets.count c.in-Ok-Some.octet c.octets.run c.octets.invariant.reached c.if-count-limit.true one
 
 pub returns-in-Err-take_octet-clause-ends : goal.returns-in-Err-take_octet-clause-ends
 returns-in-Err-take_octet-clause-ends g c =
     let one = rw c.in-Ok-Some.field-0-is at c.in-Ok-Some.ensures.octets in
-    RunEnds-octet c.args.limit c.args.room c.args.config _ _ _ _ _ _ c.octets.count c.in-Ok-Some.octet c.octets.run c.in-Err-take_octet.ending c.octets.invariant.reached (omega (arith, c.octets.invariant.within, c.if-count-limit.false)) one c.in-Err-take_octet.ensures.err
+    RunEnds-octet c.args.limit c.args.room empty _ _ _ _ _ _ c.octets.count c.in-Ok-Some.octet c.octets.run c.in-Err-take_octet.ending c.octets.invariant.reached (omega (arith, c.octets.invariant.within, c.if-count-limit.false)) one c.in-Err-take_octet.ensures.err
 
 pub octets-preserved : goal.octets-preserved
 octets-preserved g c =
@@ -36,7 +37,10 @@ octets-preserved g c =
       lines = omega (arith, c.octets.invariant.lines, c.in_default.ensures.sound.1);
       sound = c.in_default.ensures.sound.0;
       line = c.in_default.ensures.line;
-      reached = HasReached-more c.args.room c.args.config _ _ _ _ _ _ c.octets.count c.in-Ok-Some.octet c.octets.run c.take_octet.new.self c.octets.invariant.reached one c.in_default.ensures.ok;
+      reached = HasReached-more c.args.room empty _ _ _ _ _ _ c.octets.count c.in-Ok-Some.octet c.octets.run c.take_octet.new.self c.octets.invariant.reached one c.in_default.ensures.ok;
       source_later = omega (arith, c.octets.invariant.source_later, c.in-Ok-Some.ensures.cause.later);
       out_later = omega (arith, c.octets.invariant.out_later, c.in_default.ensures.cause.later);
     }
+
+pub returns-in-Err-clause-ends : goal.returns-in-Err-clause-ends
+returns-in-Err-clause-ends g c = RunEnds-none c.args.limit c.args.room empty _ _

@@ -1,5 +1,5 @@
 use Rattle.std.proofs.Common.{refl}
-use Rattle.trace_lang.specs.Event.{event_of}
+use Rattle.event_record.specs.Record.{event_of}
 use Rattle.race_run.proofs.StepLemmas.{Steps-control, Halts-full}
 use Rattle.race_run.proofs.run.Run.enter_control.Goals as goal
 

@@ -1,64 +1,91 @@
-use Rattle.std.proofs.Common.{refl, sym, ◌∙◌, Ok}
+use Rattle.std.proofs.Common.{◌≡◌, ℕ, Bool, List, refl, sym, ap, ◌∙◌, Ok}
+use Rattle.switch_event.specs.Config.{Config, is_valid}
+use Rattle.trace_defs.specs.Line.{line_of}
 use Rattle.trace_defs.specs.Line.Line.{Blank as IsBlank, Begin as IsBegin, Sync as IsSync, Setting as IsSetting, Entry}
 use Rattle.trace_defs.specs.Line.Record.{Control as ControlEntry, Data as DataEntry}
-use Rattle.trace_lang.specs.Event.{event_of}
+use Rattle.event_record.specs.Record.{event_of}
 use Rattle.race_run.specs.declared.run.Run.{Run}
-use Rattle.race_run.proofs.StepLemmas.{kept_run, Steps-read, Steps-read-ok, Halts-read-err, Steps-blank, Steps-setting}
+use Rattle.race_run.proofs.ReadLemmas.{IsRead-setting, IsRead-begin}
+use Rattle.race_run.proofs.StepLemmas.{HasFewRecords-more, kept_run, Steps-read, Steps-read-ok, Halts-read-err, Steps-blank, Steps-setting}
 use Rattle.race_run.proofs.run.Run.take_line.Goals as goal
+
+-- what is kept of a line is read as the line
+reads_by : {begun known : Bool} (config : Config) (given : ℕ) (kept : List ℕ) → known ≡ begun → (line : List ℕ) → line_of config given known kept ≡ line_of config given known line
+    → line_of config given begun line ≡ line_of config given known kept
+reads_by config given kept e line same = ap (λ b. line_of config given b line) (sym e) ∙ sym same
 
 pub returns-in-Ok-Blank-clause-ok : goal.returns-in-Ok-Blank-clause-ok
 returns-in-Ok-Blank-clause-ok g c = λ line kept.
     let old = c.args.self.now in
     let mid : Run = record old { config = c.read_line.new.c; given = c.read_line.new.given } in
     let reads = rw c.in-Ok-Blank.field-0-is at c.in-Ok-Blank.ensures.reads in
-    Steps-read c.args.room _ _ old mid _ line (Ok IsBlank) (sym (c.line.ensures.reads old.config old.given old.begun line kept) ∙ reads.0) (kept_run old c.read_line.new.c c.read_line.new.given reads.1) (Steps-blank c.args.room _ mid)
+    Steps-read c.args.room _ _ old mid _ line (Ok IsBlank) (reads_by old.config old.given c.line.result.now c.is_some.ensures line (c.line.ensures.reads old.config old.given c.is_some.result line kept) ∙ reads.0) (kept_run old c.read_line.new.c c.read_line.new.given reads.1) (Steps-blank c.args.room _ mid)
 
 pub returns-in-Ok-Setting-clause-ok : goal.returns-in-Ok-Setting-clause-ok
 returns-in-Ok-Setting-clause-ok g c = λ line kept.
     let old = c.args.self.now in
     let reads = rw c.in-Ok-Setting.field-0-is at c.in-Ok-Setting.ensures.reads in
     let place = rw c.in-Ok-Setting.field-0-is at c.in-Ok-Setting.ensures.place in
-    Steps-read c.args.room _ _ old old _ line (Ok (IsSetting c.read_line.new.c c.read_line.new.given)) (sym (c.line.ensures.reads old.config old.given old.begun line kept) ∙ reads) refl
-    (Steps-setting c.args.room _ old c.read_line.new.c c.read_line.new.given place)
+    Steps-read c.args.room _ _ old old _ line (Ok (IsSetting c.read_line.new.c c.read_line.new.given)) (reads_by old.config old.given c.line.result.now c.is_some.ensures line (c.line.ensures.reads old.config old.given c.is_some.result line kept) ∙ reads) refl
+    (Steps-setting c.args.room _ old c.read_line.new.c c.read_line.new.given (sym c.is_some.ensures ∙ place))
 
 pub returns-in-Ok-Begin-clause-ok : goal.returns-in-Ok-Begin-clause-ok
 returns-in-Ok-Begin-clause-ok g c = λ line kept.
     let old = c.args.self.now in
     let mid : Run = record old { config = c.read_line.new.c; given = c.read_line.new.given } in
     let reads = rw c.in-Ok-Begin.field-0-is at c.in-Ok-Begin.ensures.reads in
-    Steps-read-ok c.begin.result c.args.room _ _ old mid c.begin.new.self line (Ok IsBegin) (sym (c.line.ensures.reads old.config old.given old.begun line kept) ∙ reads.0) (kept_run old c.read_line.new.c c.read_line.new.given reads.1) (c.begin.ensures.ok c.args.room _)
+    Steps-read-ok c.begin.result c.args.room _ _ old mid c.begin.new.self line (Ok IsBegin) (reads_by old.config old.given c.line.result.now c.is_some.ensures line (c.line.ensures.reads old.config old.given c.is_some.result line kept) ∙ reads.0) (kept_run old c.read_line.new.c c.read_line.new.given reads.1) (c.begin.ensures.ok c.args.room _)
 
 pub returns-in-Ok-Sync-clause-ok : goal.returns-in-Ok-Sync-clause-ok
 returns-in-Ok-Sync-clause-ok g c = λ line kept.
     let old = c.args.self.now in
     let mid : Run = record old { config = c.read_line.new.c; given = c.read_line.new.given } in
     let reads = rw c.in-Ok-Sync.field-0-is at c.in-Ok-Sync.ensures.reads in
-    Steps-read-ok c.sync.result c.args.room _ _ old mid c.sync.new.self line (Ok IsSync) (sym (c.line.ensures.reads old.config old.given old.begun line kept) ∙ reads.0) (kept_run old c.read_line.new.c c.read_line.new.given reads.1) (c.sync.ensures.ok c.args.room)
+    Steps-read-ok c.sync.result c.args.room _ _ old mid c.sync.new.self line (Ok IsSync) (reads_by old.config old.given c.line.result.now c.is_some.ensures line (c.line.ensures.reads old.config old.given c.is_some.result line kept) ∙ reads.0) (kept_run old c.read_line.new.c c.read_line.new.given reads.1) (c.sync.ensures.ok c.args.room)
 
 pub returns-in-Ok-Sync-clause-err : goal.returns-in-Ok-Sync-clause-err
 returns-in-Ok-Sync-clause-err g c = λ line kept.
     let old = c.args.self.now in
     let mid : Run = record old { config = c.read_line.new.c; given = c.read_line.new.given } in
     let reads = rw c.in-Ok-Sync.field-0-is at c.in-Ok-Sync.ensures.reads in
-    Halts-read-err c.sync.result c.args.room _ _ old mid line (Ok IsSync) (sym (c.line.ensures.reads old.config old.given old.begun line kept) ∙ reads.0) (kept_run old c.read_line.new.c c.read_line.new.given reads.1) (c.sync.ensures.err c.args.room)
+    Halts-read-err c.sync.result c.args.room _ _ old mid line (Ok IsSync) (reads_by old.config old.given c.line.result.now c.is_some.ensures line (c.line.ensures.reads old.config old.given c.is_some.result line kept) ∙ reads.0) (kept_run old c.read_line.new.c c.read_line.new.given reads.1) (c.sync.ensures.err c.args.room)
 
 pub returns-in-Ok-Control-clause-ok : goal.returns-in-Ok-Control-clause-ok
 returns-in-Ok-Control-clause-ok g c = λ line kept.
     let old = c.args.self.now in
     let mid : Run = record old { config = c.read_line.new.c; given = c.read_line.new.given } in
     let reads = rw c.in-Ok-Control.field-0-is at c.in-Ok-Control.ensures.reads in
-    Steps-read-ok c.enter_control.result c.args.room _ _ old mid c.enter_control.new.self line (Ok (Entry (ControlEntry c.in-Ok-Control.lane (event_of c.in-Ok-Control.what)))) (sym (c.line.ensures.reads old.config old.given old.begun line kept) ∙ reads.0) (kept_run old c.read_line.new.c c.read_line.new.given reads.1) (c.enter_control.ensures.ok _)
+    Steps-read-ok c.enter_control.result c.args.room _ _ old mid c.enter_control.new.self line (Ok (Entry (ControlEntry c.in-Ok-Control.lane (event_of c.in-Ok-Control.what)))) (reads_by old.config old.given c.line.result.now c.is_some.ensures line (c.line.ensures.reads old.config old.given c.is_some.result line kept) ∙ reads.0) (kept_run old c.read_line.new.c c.read_line.new.given reads.1) (c.enter_control.ensures.ok _)
 
 pub returns-in-Ok-Control-clause-err : goal.returns-in-Ok-Control-clause-err
 returns-in-Ok-Control-clause-err g c = λ line kept.
     let old = c.args.self.now in
     let mid : Run = record old { config = c.read_line.new.c; given = c.read_line.new.given } in
     let reads = rw c.in-Ok-Control.field-0-is at c.in-Ok-Control.ensures.reads in
-    Halts-read-err c.enter_control.result c.args.room _ _ old mid line (Ok (Entry (ControlEntry c.in-Ok-Control.lane (event_of c.in-Ok-Control.what)))) (sym (c.line.ensures.reads old.config old.given old.begun line kept) ∙ reads.0) (kept_run old c.read_line.new.c c.read_line.new.given reads.1) (c.enter_control.ensures.err _)
+    Halts-read-err c.enter_control.result c.args.room _ _ old mid line (Ok (Entry (ControlEntry c.in-Ok-Control.lane (event_of c.in-Ok-Control.what)))) (reads_by old.config old.given c.line.result.now c.is_some.ensures line (c.line.ensures.reads old.config old.given c.is_some.result line kept) ∙ reads.0) (kept_run old c.read_line.new.c c.read_line.new.given reads.1) (c.enter_control.ensures.err _)
 
 pub returns-in-Ok-Data-clause-ok : goal.returns-in-Ok-Data-clause-ok
 returns-in-Ok-Data-clause-ok g c = λ line kept.
     let old = c.args.self.now in
     let mid : Run = record old { config = c.read_line.new.c; given = c.read_line.new.given } in
     let reads = rw c.in-Ok-Data.field-0-is at c.in-Ok-Data.ensures.reads in
-    Steps-read-ok c.enter_data.result c.args.room _ _ old mid c.enter_data.new.self line (Ok (Entry (DataEntry c.in-Ok-Data.port c.in-Ok-Data.octets))) (sym (c.line.ensures.reads old.config old.given old.begun line kept) ∙ reads.0) (kept_run old c.read_line.new.c c.read_line.new.given reads.1) (c.enter_data.ensures.ok c.args.room _)
+    Steps-read-ok c.enter_data.result c.args.room _ _ old mid c.enter_data.new.self line (Ok (Entry (DataEntry c.in-Ok-Data.port c.in-Ok-Data.octets))) (reads_by old.config old.given c.line.result.now c.is_some.ensures line (c.line.ensures.reads old.config old.given c.is_some.result line kept) ∙ reads.0) (kept_run old c.read_line.new.c c.read_line.new.given reads.1) (c.enter_data.ensures.ok c.args.room _)
+
+pub returns-in-Ok-Setting-clause-sound : goal.returns-in-Ok-Setting-clause-sound
+returns-in-Ok-Setting-clause-sound g c =
+    let old = c.args.self.now in
+    let reads = rw c.in-Ok-Setting.field-0-is at c.in-Ok-Setting.ensures.reads in
+    let place = rw c.in-Ok-Setting.field-0-is at c.in-Ok-Setting.ensures.place in (
+      record {
+        records = HasFewRecords-more _ old.lines old.switch c.requires.sound.records;
+        read = IsRead-setting old.config c.read_line.new.c old.given c.read_line.new.given _ c.line.result.now c.requires.sound.read place reads;
+      },
+      refl,
+    )
+
+pub begin-requires-clause-valid : goal.begin-requires-clause-valid
+begin-requires-clause-valid g c =
+    let old = c.args.self.now in
+    let reads = rw c.in-Ok-Begin.field-0-is at c.in-Ok-Begin.ensures.reads in
+    let place = rw c.in-Ok-Begin.field-0-is at c.in-Ok-Begin.ensures.place in
+    ap is_valid reads.1.same_config ∙ IsRead-begin old.config old.given _ c.line.result.now c.requires.sound.read place reads.0

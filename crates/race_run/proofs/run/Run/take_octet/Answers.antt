@@ -1,5 +1,5 @@
-use Rattle.std.proofs.Common.{refl, sym, ap, ◌∙◌, [], ◌∷◌, ◌++◌, append-nil}
-use Rattle.trace_defs.specs.Kept.{kept_of}
+use Rattle.std.proofs.Common.{refl, subst, sym, ap, ◌∙◌, [], ◌∷◌, ◌++◌, append-nil}
+use Rattle.trace_defs.specs.Alike.{ReadAlike}
 use Rattle.trace_defs.proofs.TraceLemmas.{HasRead-other}
 use Rattle.race_run.proofs.FateLemmas.{no_feed, a_feed, TakesOctet-feed, StopsAtOctet-fed}
 use Rattle.race_run.proofs.StepLemmas.{IsAt-line}
@@ -12,7 +12,7 @@ returns-in-None-clause-ok g c = λ config origin given p at held.
       IsAt-line origin _ c.args.self.now _ p refl at,
       record {
         part = held.part ++ c.args.octet ∷ [];
-        kept = c.feed.ensures.text held.part held.kept ∙ ap (λ l. kept_of (held.part ++ l)) other.1;
+        kept = subst (λ l. ReadAlike c.feed.new.self.text (held.part ++ l)) other.1 (c.feed.ensures.text held.part held.kept);
         read = HasRead-other c.args.room config given p held.part c.args.octet held.read other.0;
       },
     )
@@ -21,10 +21,10 @@ pub returns-in-Some-clause-ok : goal.returns-in-Some-clause-ok
 returns-in-Some-clause-ok g c =
     let feed = a_feed c.args.octet c.in-Some.field-0 (sym c.feed.ensures.count ∙ c.in-Some.is) in
     TakesOctet-feed c.end_line.result c.args.room c.args.octet _ _ c.args.self.now (record c.args.self.now { line = c.feed.new.self }) c.end_line.new.self feed.0 refl
-    (λ line kept. c.feed.ensures.text line kept ∙ ap (λ l. kept_of (line ++ l)) feed.1 ∙ ap kept_of (append-nil line)) c.end_line.ensures.ok c.end_line.ensures.next
+    (λ line kept. subst (ReadAlike c.feed.new.self.text) (ap (λ l. line ++ l) feed.1 ∙ append-nil line) (c.feed.ensures.text line kept)) c.end_line.ensures.ok c.end_line.ensures.next
 
 pub returns-in-Some-clause-err : goal.returns-in-Some-clause-err
 returns-in-Some-clause-err g c =
     let feed = a_feed c.args.octet c.in-Some.field-0 (sym c.feed.ensures.count ∙ c.in-Some.is) in
     StopsAtOctet-fed c.end_line.result c.args.room c.args.octet _ _ c.args.self.now (record c.args.self.now { line = c.feed.new.self }) feed.0 refl
-    (λ line kept. c.feed.ensures.text line kept ∙ ap (λ l. kept_of (line ++ l)) feed.1 ∙ ap kept_of (append-nil line)) c.end_line.ensures.err
+    (λ line kept. subst (ReadAlike c.feed.new.self.text) (ap (λ l. line ++ l) feed.1 ∙ append-nil line) (c.feed.ensures.text line kept)) c.end_line.ensures.err

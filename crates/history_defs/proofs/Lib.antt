@@ -1,0 +1,3 @@
+pub mod OutputLemmas
+mod Worked
+mod Limits

@@ -1,0 +1,104 @@
+-- Worked examples, by computation: they test the definitions.
+use Rattle.std.proofs.Common.{◌≡◌, ℕ, refl, List, [], ◌∷◌, ◌++◌, codes}
+use Rattle.std.specs.Fmt.{digits}
+use Rattle.hex.proofs.OnLiterals.{hex_on_literals}
+use Rattle.switch_event.specs.Config.{empty}
+use Rattle.trace_defs.specs.Trace.{trace_of, fate, whole, progress_of}
+use Rattle.history_defs.specs.Output.{plain}
+
+-- one server, and one port of each control
+abbrev settings : List ℕ
+settings =
+    codes "server 192.0.2.20 1812 736563726574" ++ 10 ∷ [] ++
+    codes "port 1 10 auto" ++ 10 ∷ [] ++
+    codes "port 2 20 force-auth" ++ 10 ∷ [] ++
+    codes "port 3 30 force-unauth" ++ 10 ∷ [] ++
+    codes "begin" ++ 10 ∷ []
+
+abbrev printed : List ℕ → List ℕ
+printed text = plain (progress_of (trace_of 67108864 1048576 empty text)).config (whole 67108864 1048576 empty text)
+
+abbrev nothing_text : List ℕ
+nothing_text = settings ++ []
+
+nothing_fate : fate 67108864 1048576 empty nothing_text ≡ 0
+unfolding hex_on_literals digits
+nothing_fate = refl
+
+nothing : printed nothing_text ≡ []
+unfolding hex_on_literals digits
+nothing = refl
+
+abbrev links_and_unauthorised_text : List ℕ
+links_and_unauthorised_text = settings ++
+    codes "link 1 up" ++ 10 ∷ [] ++
+    codes "frame 1 ffffffffffff0200000000aa08004500" ++ 10 ∷ []
+
+links_and_unauthorised_fate : fate 67108864 1048576 empty links_and_unauthorised_text ≡ 0
+unfolding hex_on_literals digits
+links_and_unauthorised_fate = refl
+
+links_and_unauthorised : printed links_and_unauthorised_text ≡
+    codes "c 1 @1 0 ok" ++ 10 ∷ [] ++
+    codes "f 1 0180c2000003020000010101888e020000050100000501" ++ 10 ∷ [] ++
+    codes "d 2 1 drop unauthorised" ++ 10 ∷ []
+unfolding hex_on_literals digits
+links_and_unauthorised = refl
+
+abbrev forwarded_text : List ℕ
+forwarded_text = settings ++
+    codes "frame 2 ffffffffffff0200000000bb08004500" ++ 10 ∷ [] ++
+    codes "link 2 up" ++ 10 ∷ [] ++
+    codes "frame 2 ffffffffffff0200000000bb08004500" ++ 10 ∷ []
+
+forwarded_fate : fate 67108864 1048576 empty forwarded_text ≡ 0
+unfolding hex_on_literals digits
+forwarded_fate = refl
+
+forwarded : printed forwarded_text ≡
+    codes "d 1 0 drop down" ++ 10 ∷ [] ++
+    codes "c 2 @1 0 ok" ++ 10 ∷ [] ++
+    codes "f 2 0180c2000003020000010102888e0200000403000004" ++ 10 ∷ [] ++
+    codes "d 3 1 forward 0 20 ffffffffffff0200000000bb8100001408004500" ++ 10 ∷ []
+unfolding hex_on_literals digits
+forwarded = refl
+
+abbrev closed_text : List ℕ
+closed_text = settings ++
+    codes "link 3 up" ++ 10 ∷ [] ++
+    codes "frame 3 ffffffffffff0200000000bb08004500" ++ 10 ∷ []
+
+closed_fate : fate 67108864 1048576 empty closed_text ≡ 0
+unfolding hex_on_literals digits
+closed_fate = refl
+
+closed : printed closed_text ≡
+    codes "c 1 @1 0 ok" ++ 10 ∷ [] ++
+    codes "f 3 0180c2000003020000010103888e0200000404000004" ++ 10 ∷ [] ++
+    codes "d 2 1 drop closed" ++ 10 ∷ []
+unfolding hex_on_literals digits
+closed = refl
+
+abbrev drops_text : List ℕ
+drops_text = settings ++
+    codes "link 2 up" ++ 10 ∷ [] ++
+    codes "frame 2 ffffffffffff0200000000bb08" ++ 10 ∷ [] ++
+    codes "frame 2 ffffffffffff0200000000bb0800" ++ 10 ∷ [] ++
+    codes "frame 2 ffffffffffff0200000000bb8100" ++ 10 ∷ [] ++
+    codes "frame 2 0180c200000e0200000000bb0800" ++ 10 ∷ [] ++
+    codes "frame 2 ffffffffffff0100000000bb0800" ++ 10 ∷ []
+
+drops_fate : fate 67108864 1048576 empty drops_text ≡ 0
+unfolding hex_on_literals digits
+drops_fate = refl
+
+drops : printed drops_text ≡
+    codes "c 1 @1 0 ok" ++ 10 ∷ [] ++
+    codes "f 2 0180c2000003020000010102888e0200000403000004" ++ 10 ∷ [] ++
+    codes "d 2 1 drop runt" ++ 10 ∷ [] ++
+    codes "d 3 1 forward 0 20 ffffffffffff0200000000bb810000140800" ++ 10 ∷ [] ++
+    codes "d 4 1 drop tagged" ++ 10 ∷ [] ++
+    codes "d 5 1 drop reserved" ++ 10 ∷ [] ++
+    codes "d 6 1 drop group-source" ++ 10 ∷ []
+unfolding hex_on_literals digits
+drops = refl

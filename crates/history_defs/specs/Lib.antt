@@ -1,0 +1,5 @@
+pub mod Switch
+pub mod Turn
+pub mod Decide
+pub mod Output
+pub mod Status
