@@ -9,8 +9,9 @@ use Rattle.machine_defs.specs.Live.{cleared}
 use Rattle.settle_defs.specs.Settle.{Rest, settled}
 use Rattle.aaa_defs.specs.Request.{Ask, authenticator, request_octets}
 use Rattle.aaa_defs.specs.Waits.{Pending, next_name, socket_of, identifier_of, with_request, forgotten}
-use Rattle.switch_event.specs.Sent.{Sent, ToHost, ToServer}
-use Rattle.switch_defs.specs.Switch.{Port, Host, Standing, Session, State, Did, only, own_address, is_port, is_at, on_port, eap_frame}
+use Rattle.switch_event.specs.Sent.{Sent, ToServer}
+use Rattle.switch_event.specs.Frames.{frames}
+use Rattle.switch_defs.specs.Switch.{Port, Host, Standing, Session, State, Did, only, own_address, is_port, is_at, on_port}
 
 -- the same session, with another standing
 abbrev pub stands_as : Host → Standing → Session → Session
@@ -53,10 +54,6 @@ abbrev pub close : Host → State → State
 close h s = arm h.port (record (forget h s) { sessions = filter (is_other h) s.sessions })
 
 -- ---- what is sent
-
--- an EAP packet of a session, or of a forced port, in a frame to its peer
-abbrev pub to_peer : Vars → List ℕ → Sent
-to_peer v eap = ToHost v.port (eap_frame v.peer v.own eap)
 
 -- what the server is asked about a host (RFC 3580, section 3)
 abbrev pub question : State → Host → Standing → Ask
@@ -122,7 +119,7 @@ close_if false h s = s
 abbrev pub follow : Cause → Host → Standing → Rest → State → Did
 follow why h x r s =
     let d = ask_if r.vars.aaa_eap_resp h (rested why x r.vars) (forget_if r.vars.aaa_abort h (place h (rested why x r.vars) s)) in
-    record { state = close_if r.vars.gone h d.state; sent = map (to_peer r.vars) r.packets ++ d.sent }
+    record { state = close_if r.vars.gone h d.state; sent = frames r.vars r.packets ++ d.sent }
 
 -- a session is settled with this standing
 abbrev pub settle_session : Cause → Host → Standing → State → Did

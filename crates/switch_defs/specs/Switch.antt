@@ -1,8 +1,7 @@
 -- The state of the switch, what it sends, and look-ups.
 use Rattle.std.specs.Prelude.{ℕ, ◌==◌, ◌&&◌, Bool, false, List, [], ◌∷◌, ◌++◌, take, map, find, Option}
 use Rattle.std.specs.Str.{bytes_eq}
-use Rattle.wire_defs.specs.Ethernet.{pae_group, eapol_kind, plain_text}
-use Rattle.wire_defs.specs.Eapol.{eapol_text}
+use Rattle.wire_defs.specs.Ethernet.{pae_group}
 use Rattle.machine_vars.specs.declared.vars.Vars.{Vars}
 use Rattle.machine_vars.specs.declared.control.Control.{Control}
 use Rattle.machine_defs.specs.Live.{fresh}
@@ -96,10 +95,6 @@ port_address bridge port = take 5 bridge ++ port ∷ []
 
 abbrev pub own_address : State → ℕ → List ℕ
 own_address s port = port_address s.config.bridge port
-
--- a frame that carries an EAP packet (IEEE Std 802.1X-2004, 7.5)
-abbrev pub eap_frame : List ℕ → List ℕ → List ℕ → List ℕ
-eap_frame to source eap = plain_text (record { to = to; source = source; kind = eapol_kind; body = eapol_text eap })
 
 -- ---- look-ups
 

@@ -27,8 +27,9 @@ use Rattle.wire_core.specs.declared.address.Addr.{Addr}
 use Rattle.switch_event.specs.Event.{Happening, Frame, Radius, Dynamic, Second, Link, SetControl}
 use Rattle.dynauth_defs.specs.Judge.{Judged, Drop, Again as RepeatOf, Nak, Ack, line_number}
 use Rattle.switch_event.specs.Sent.{Sent, ToHost, ToClient}
-use Rattle.switch_defs.specs.Switch.{Port, Host, Standing, Session, State, Did, Turned, turned, and_then, only, own_address, is_port, port_of, session_at, on_port, most_hosts, eap_frame}
-use Rattle.switch_defs.specs.Session.{Cause, AnAnswer, ALogoff, Another, arm, no_guests, close, forget, to_peer, to_server, settle_session}
+use Rattle.switch_event.specs.Frames.{eap_frame, frames}
+use Rattle.switch_defs.specs.Switch.{Port, Host, Standing, Session, State, Did, Turned, turned, and_then, only, own_address, is_port, port_of, session_at, on_port, most_hosts}
+use Rattle.switch_defs.specs.Session.{Cause, AnAnswer, ALogoff, Another, arm, no_guests, close, forget, to_server, settle_session}
 use Rattle.switch_defs.specs.Answer.{Answered, Refused, Told, stands, answered_on}
 use Rattle.switch_defs.specs.Dynamic.{say_failure, act, reply, judged_on}
 
@@ -131,7 +132,7 @@ set_forced n v s = record s { ports = map (with_forced n v) s.ports }
 
 -- a forced port's variables are settled, and speak to all hosts again
 abbrev pub settle_port : ℕ → Vars → State → Did
-settle_port n v s = record { state = set_forced n (to_all (settled v).vars) s; sent = map (to_peer (settled v).vars) (settled v).packets }
+settle_port n v s = record { state = set_forced n (to_all (settled v).vars) s; sent = frames (settled v).vars (settled v).packets }
 
 -- ---- what a frame does
 

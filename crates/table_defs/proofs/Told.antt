@@ -40,7 +40,7 @@ use Rattle.switch_defs.proofs.Fitting.{AreVlans, vlans_placed, vlans_close, vlan
 use Rattle.switch_defs.proofs.Moving.{Moved, unmoved, then_moved, moved_to, moved_place, moved_close, moved_settle, moved_open}
 use Rattle.switch_defs.proofs.Hosts.{stays}
 use Rattle.switch_defs.proofs.Soundness.{distinct_of}
-use Rattle.table_defs.specs.Table.{Item, Link, SetControl, Guest, Let, Bar, is_view, view_link, view_control, view_guest, view_absorbed, views_after, conf_of, allowed_by, IsAllowed, said, all_said, Leads, Rights, AreRoomy, StayRoomy, IsTold}
+use Rattle.table_defs.specs.Table.{Item, Link, SetControl, Guest, Let, Bar, is_view, view_link, view_control, view_guest, view_absorbed, views_after, conf_of, allowed_by, IsAllowed, said, all_said, Leads, Rights, AreRoomy, StayRoomy, Tells, IsTold}
 
 -- ---- what a host is authorised for
 
@@ -93,16 +93,20 @@ stay_append : (is js : List Item) (f g : Rights) → ((port : ℕ) (address : Li
 stay_append [] js f g e r q = stay_same js f g e q
 stay_append (i ∷ is) js f g e r q = (r.0, stay_append is js _ g e r.1 q)
 
--- ---- at most n items tell of what changed
+-- ---- items that tell of what changed
 
+pub record ToldBy (is : List Item) (s t : State) : Type 0 where
+  pub leads : Leads s is t
+  pub moved : Moved s t
+  pub settings : confs t.ports ≡ confs s.ports
+  pub allowed : AllByRecursion (IsAllowed (confs s.ports)) is
+  pub room : AreHosts (hosts s) s.next → StayRoomy (authorised s) is
+
+-- at most n items do
 pub record Told (n : ℕ) (s t : State) : Type 0 where
   pub items : List Item
   pub few : length items ≤ n
-  pub leads : Leads s items t
-  pub moved : Moved s t
-  pub settings : confs t.ports ≡ confs s.ports
-  pub allowed : AllByRecursion (IsAllowed (confs s.ports)) items
-  pub room : AreHosts (hosts s) s.next → StayRoomy (authorised s) items
+  pub by : ToldBy items s t
 
 views_append : (is js : List Item) (ps : List PortView) → views_after ps (is ++ js) ≡ views_after (views_after ps is) js
 views_append [] js ps = refl
@@ -122,31 +126,37 @@ each_append : {A : Type 0} (P : A → Type 0) (xs ys : List A) → AllByRecursio
 each_append P [] ys a b = b
 each_append P (x ∷ xs) ys a b = (a.0, each_append P xs ys a.1 b)
 
+pub by_then : {is js : List Item} {s t u : State} → ToldBy is s t → ToldBy js t u → ToldBy (is ++ js) s u
+by_then {is = is} {js = js} {s = s} {t = t} {u = u} a b = record {
+  leads = leads_then s t u is js a.leads b.leads;
+  moved = then_moved a.moved b.moved;
+  settings = b.settings ∙ a.settings;
+  allowed = each_append (IsAllowed (confs s.ports)) is js a.allowed (subst (λ (cs : List PortConf). AllByRecursion (IsAllowed cs) js) a.settings b.allowed);
+  room = λ h. stay_append is js (authorised s) (authorised t) a.leads.rights (a.room h) (b.room (moved_to a.moved h));
+}
+
 pub told_then : {n m : ℕ} (s t u : State) → Told n s t → Told m t u → Told (n + m) s u
 told_then s t u a b = record {
   items = a.items ++ b.items;
   few = simp length-append (omega (arith, a.few, b.few));
-  leads = leads_then s t u a.items b.items a.leads b.leads;
-  moved = then_moved a.moved b.moved;
-  settings = b.settings ∙ a.settings;
-  allowed = each_append (IsAllowed (confs s.ports)) a.items b.items a.allowed (subst (λ (cs : List PortConf). AllByRecursion (IsAllowed cs) b.items) a.settings b.allowed);
-  room = λ h. stay_append a.items b.items (authorised s) (authorised t) a.leads.rights (a.room h) (b.room (moved_to a.moved h));
+  by = by_then a.by b.by;
 }
 
 pub told_weaker : {n m : ℕ} {s t : State} → n ≤ m → Told n s t → Told m s t
-told_weaker le a = record { items = a.items; few = omega (arith, a.few, le); leads = a.leads; moved = a.moved; settings = a.settings; allowed = a.allowed; room = a.room }
+told_weaker le a = record { items = a.items; few = omega (arith, a.few, le); by = a.by }
 
 -- what no table has
-pub told_none : (s t : State) → map view s.ports ≡ map view t.ports → confs t.ports ≡ confs s.ports → s.sessions ≡ t.sessions → Moved s t → Told 0 s t
-told_none s t e c f m = record {
-  items = [];
-  few = omega arith;
+pub by_none : (s t : State) → map view s.ports ≡ map view t.ports → confs t.ports ≡ confs s.ports → s.sessions ≡ t.sessions → Moved s t → ToldBy [] s t
+by_none s t e c f m = record {
   leads = record { ports = e; rights = λ port address. sym (right_same s t port address c (ap (λ (ys : List Session). find (λ y. is_at port address y.host) ys) (sym f))) };
   moved = m;
   settings = c;
   allowed = tt;
   room = λ h. tt;
 }
+
+pub told_none : (s t : State) → map view s.ports ≡ map view t.ports → confs t.ports ≡ confs s.ports → s.sessions ≡ t.sessions → Moved s t → Told 0 s t
+told_none s t e c f m = record { items = []; few = omega arith; by = by_none s t e c f m }
 
 -- ---- one host
 
@@ -215,13 +225,13 @@ item_by h (Some r) = Let h.port h.address r
 abbrev pub item_for : Host → State → Item
 item_for h s = item_by h (authorised s h.port h.address)
 
-told_by : (h : Host) (o : Option Right) (port : ℕ) (address : List ℕ) (p : Option Right) → same_key h.port h.address port address ≡ false → said port address (item_by h o) p ≡ p
-told_by h None port address p e = rw e refl
-told_by h (Some r) port address p e = rw e refl
+said_of_others : (h : Host) (o : Option Right) (port : ℕ) (address : List ℕ) (p : Option Right) → same_key h.port h.address port address ≡ false → said port address (item_by h o) p ≡ p
+said_of_others h None port address p e = rw e refl
+said_of_others h (Some r) port address p e = rw e refl
 
-told_of : (h : Host) (o : Option Right) (port : ℕ) (address : List ℕ) (p : Option Right) → same_key h.port h.address port address ≡ true → said port address (item_by h o) p ≡ o
-told_of h None port address p e = rw e refl
-told_of h (Some r) port address p e = rw e refl
+said_of_it : (h : Host) (o : Option Right) (port : ℕ) (address : List ℕ) (p : Option Right) → same_key h.port h.address port address ≡ true → said port address (item_by h o) p ≡ o
+said_of_it h None port address p e = rw e refl
+said_of_it h (Some r) port address p e = rw e refl
 
 item_views : (h : Host) (o : Option Right) (ps : List PortView) → view_absorbed ps (item_by h o) ≡ ps
 item_views h None ps = refl
@@ -233,8 +243,8 @@ aside_leads {h = h} s t a = record {
   rights = λ port address. elim (same_key h.port h.address port address) as (λ b. same_key h.port h.address port address ≡ b → said port address (item_for h t) (authorised s port address) ≡ authorised t port address) [
     | true ↦ λ e.
         let k = key_equal h.port h.address port address e in
-        told_of h (authorised t h.port h.address) port address (authorised s port address) e ∙ (λ i. authorised t (k.0 i) (k.1 i))
-    | false ↦ λ e. told_by h (authorised t h.port h.address) port address (authorised s port address) e ∙ sym (right_same s t port address a.confs (a.others port address e))
+        said_of_it h (authorised t h.port h.address) port address (authorised s port address) e ∙ (λ i. authorised t (k.0 i) (k.1 i))
+    | false ↦ λ e. said_of_others h (authorised t h.port h.address) port address (authorised s port address) e ∙ sym (right_same s t port address a.confs (a.others port address e))
   ] refl;
 }
 
@@ -313,12 +323,10 @@ pub record Speaks (h : Host) (s t : State) : Type 0 where
   pub restricted : AreRestricted (confs s.ports)
   pub vlans : AreVlans t.sessions
 
-pub told_aside : {h : Host} (s t : State) → Aside h s t → Moved s t → Speaks h s t → Told 1 s t
-told_aside {h = h} s t a m k =
+pub by_aside : {h : Host} (s t : State) → Aside h s t → Moved s t → Speaks h s t → ToldBy (item_for h t ∷ []) s t
+by_aside {h = h} s t a m k =
     let l = aside_leads s t a in
     record {
-      items = item_for h t ∷ [];
-      few = omega arith;
       leads = l;
       moved = m;
       settings = a.confs;
@@ -326,13 +334,32 @@ told_aside {h = h} s t a m k =
       room = λ k. (roomy_same _ (authorised t) l.rights (state_roomy t (moved_to m k).few), tt);
     }
 
+pub told_aside : {h : Host} (s t : State) → Aside h s t → Moved s t → Speaks h s t → Told 1 s t
+told_aside {h = h} s t a m k = record { items = item_for h t ∷ []; few = omega arith; by = by_aside s t a m k }
+
+-- a host whose right is as before needs no item
+pub by_as_before : {h : Host} (s t : State) → Aside h s t → Moved s t → authorised t h.port h.address ≡ authorised s h.port h.address → ToldBy [] s t
+by_as_before {h = h} s t a m e = record {
+  leads = record {
+    ports = a.ports;
+    rights = λ port address. elim (same_key h.port h.address port address) as (λ b. same_key h.port h.address port address ≡ b → authorised s port address ≡ authorised t port address) [
+      | true ↦ λ k.
+          let same = key_equal h.port h.address port address k in
+          (λ i. authorised s (sym same.0 i) (sym same.1 i)) ∙ sym e ∙ (λ i. authorised t (same.0 i) (same.1 i))
+      | false ↦ λ k. sym (right_same s t port address a.confs (a.others port address k))
+    ] refl;
+  };
+  moved = m;
+  settings = a.confs;
+  allowed = tt;
+  room = λ k. tt;
+}
+
 -- ---- one item of a port
 
-told_port : (s : State) (f : Port → Port) (i : Item) → ((o : Option Right) (port : ℕ) (address : List ℕ) → said port address i o ≡ o) → view_absorbed (map view s.ports) i ≡ map view (map f s.ports) → confs (map f s.ports) ≡ confs s.ports →
-    IsAllowed (confs s.ports) i → Told 1 s (record s { ports = map f s.ports })
-told_port s f i e v c k = record {
-  items = i ∷ [];
-  few = omega arith;
+by_port : (s : State) (f : Port → Port) (i : Item) → ((o : Option Right) (port : ℕ) (address : List ℕ) → said port address i o ≡ o) → view_absorbed (map view s.ports) i ≡ map view (map f s.ports) → confs (map f s.ports) ≡ confs s.ports →
+    IsAllowed (confs s.ports) i → ToldBy (i ∷ []) s (record s { ports = map f s.ports })
+by_port s f i e v c k = record {
   leads = record { ports = v; rights = λ port address. e (authorised s port address) port address ∙ sym (right_same s (record s { ports = map f s.ports }) port address c refl) };
   moved = record { by = stays };
   settings = c;
@@ -344,20 +371,55 @@ two_views : (f : Port → Port) (g : PortView → PortView) → ((p : Port) → 
 two_views f g e [] = refl
 two_views f g e (p ∷ ps) = λ i. e p i ∷ two_views f g e ps i
 
+pub by_set_link : (n : ℕ) (up : Bool) (s : State) → HasConf (confs s.ports) n → ToldBy (Link n up ∷ []) s (set_link n up s)
+by_set_link n up s k =
+    by_port s (with_link n up) (Link n up) (λ o port address. refl) (two_views (with_link n up) (view_link n up) (λ p. refl) s.ports) (confs_map _ (λ p. refl) s.ports) (rw (k.1) refl)
+
 pub told_set_link : (n : ℕ) (up : Bool) (s : State) → HasConf (confs s.ports) n → Told 1 s (set_link n up s)
-told_set_link n up s k = told_port s (with_link n up) (Link n up) (λ o port address. refl) (two_views (with_link n up) (view_link n up) (λ p. refl) s.ports) (confs_map _ (λ p. refl) s.ports) (rw (k.1) refl)
+told_set_link n up s k = record { items = Link n up ∷ []; few = omega arith; by = by_set_link n up s k }
+
+pub by_set_control : (n : ℕ) (control : Control) (s : State) → HasConf (confs s.ports) n → ToldBy (SetControl n control ∷ []) s (set_control n control s)
+by_set_control n control s k =
+    by_port s (with_control n control) (SetControl n control) (λ o port address. refl) (two_views (with_control n control) (view_control n control) (λ p. refl) s.ports) (confs_map _ (λ p. refl) s.ports) (rw (k.1) refl)
 
 pub told_set_control : (n : ℕ) (control : Control) (s : State) → HasConf (confs s.ports) n → Told 1 s (set_control n control s)
-told_set_control n control s k =
-    told_port s (with_control n control) (SetControl n control) (λ o port address. refl) (two_views (with_control n control) (view_control n control) (λ p. refl) s.ports) (confs_map _ (λ p. refl) s.ports) (rw (k.1) refl)
+told_set_control n control s k = record { items = SetControl n control ∷ []; few = omega arith; by = by_set_control n control s k }
+
+pub by_no_guests : (n : ℕ) (s : State) → HasConf (confs s.ports) n → ToldBy (Guest n false ∷ []) s (no_guests n s)
+by_no_guests n s k = by_port s (unguested n) (Guest n false) (λ o port address. refl) (two_views (unguested n) (view_guest n false) (λ p. refl) s.ports) (confs_map _ (λ p. refl) s.ports) (rw (k.1) refl)
 
 pub told_no_guests : (n : ℕ) (s : State) → HasConf (confs s.ports) n → Told 1 s (no_guests n s)
-told_no_guests n s k = told_port s (unguested n) (Guest n false) (λ o port address. refl) (two_views (unguested n) (view_guest n false) (λ p. refl) s.ports) (confs_map _ (λ p. refl) s.ports) (rw (k.1) refl)
+told_no_guests n s k = record { items = Guest n false ∷ []; few = omega arith; by = by_no_guests n s k }
+
+-- a port that lets no guests in
+abbrev pub IsShut : ℕ → Port → Type 0
+IsShut n p = is_port n p ≡ true → p.guest_open ≡ false
+
+shut_view : (n : ℕ) (p : Port) → IsShut n p → view (unguested n p) ≡ view p
+shut_view n p k = by (is_port n p) k
+  where
+    by : (b : Bool) → (b ≡ true → p.guest_open ≡ false) → record (view p) { guest_open = if b then false else p.guest_open } ≡ view p
+    by true e = ap (λ g. record (view p) { guest_open = g }) (sym (e refl))
+    by false e = refl
+
+shut_views : (n : ℕ) (ps : List Port) → AllByRecursion (IsShut n) ps → map view ps ≡ map view (map (unguested n) ps)
+shut_views n [] a = refl
+shut_views n (p ∷ ps) a = λ i. sym (shut_view n p a.0) i ∷ shut_views n ps a.1 i
+
+-- it needs no item
+pub by_shut : (n : ℕ) (s : State) → AllByRecursion (IsShut n) s.ports → ToldBy [] s (no_guests n s)
+by_shut n s a = by_none s (no_guests n s) (shut_views n s.ports a) (confs_map _ (λ p. refl) s.ports) refl (record { by = stays })
 
 -- ---- guests of all ports
 
-abbrev pub guest_item : Port → Item
-guest_item p = Guest p.conf.port (guest_second p).guest_open
+-- a second opens the port to guests
+abbrev pub opens : Port → Bool
+opens p = p.guest_while == 1 && not p.guest_open
+
+-- the items of the ports that it opens
+abbrev pub opened_guests : List Port → List Item
+opened_guests [] = []
+opened_guests (p ∷ ps) = if opens p then Guest p.conf.port true ∷ opened_guests ps else opened_guests ps
 
 -- what items make of one port
 abbrev pub view_one : PortView → List Item → PortView
@@ -368,13 +430,19 @@ view_one v (Guest n on ∷ is) = view_one (view_guest n on v) is
 view_one v (Let port address r ∷ is) = view_one v is
 view_one v (Bar port address ∷ is) = view_one v is
 
-views_none : (ps : List Port) → views_after [] (map guest_item ps) ≡ []
+views_none : (ps : List Port) → views_after [] (opened_guests ps) ≡ []
 views_none [] = refl
-views_none (p ∷ ps) = views_none ps
+views_none (p ∷ ps) = elim (opens p) as (λ b. views_after [] (cond b (Guest p.conf.port true ∷ opened_guests ps) (opened_guests ps)) ≡ []) [
+  | true ↦ views_none ps
+  | false ↦ views_none ps
+]
 
-views_each : (v : PortView) (vs : List PortView) (ps : List Port) → views_after (v ∷ vs) (map guest_item ps) ≡ view_one v (map guest_item ps) ∷ views_after vs (map guest_item ps)
+views_each : (v : PortView) (vs : List PortView) (ps : List Port) → views_after (v ∷ vs) (opened_guests ps) ≡ view_one v (opened_guests ps) ∷ views_after vs (opened_guests ps)
 views_each v vs [] = refl
-views_each v vs (p ∷ ps) = views_each (view_guest p.conf.port (guest_second p).guest_open v) (map (view_guest p.conf.port (guest_second p).guest_open) vs) ps
+views_each v vs (p ∷ ps) = elim (opens p) as (λ b. let is : List Item = cond b (Guest p.conf.port true ∷ opened_guests ps) (opened_guests ps) in views_after (v ∷ vs) is ≡ view_one v is ∷ views_after vs is) [
+  | true ↦ views_each (view_guest p.conf.port true v) (map (view_guest p.conf.port true) vs) ps
+  | false ↦ views_each v vs ps
+]
 
 unguest_view : (n : ℕ) (on : Bool) (v : PortView) → is_view n v ≡ false → view_guest n on v ≡ v
 unguest_view n on v e = rw e refl
@@ -390,40 +458,73 @@ not_equal a b e = by (b == a) refl
     by true f = of_both e ((unsigned_Decides a b).1 (sym ((unsigned_Decides b a).0 f)))
 
 -- other ports say nothing of this one
-others_say : (v : PortView) (ps : List Port) → AllByRecursion (λ n. nat_eq v.conf.port n ≡ false) (map (λ c. c.port) (confs ps)) → view_one v (map guest_item ps) ≡ v
+others_say : (v : PortView) (ps : List Port) → AllByRecursion (λ n. nat_eq v.conf.port n ≡ false) (map (λ c. c.port) (confs ps)) → view_one v (opened_guests ps) ≡ v
 others_say v [] a = refl
 others_say v (p ∷ ps) a =
     let differ : is_view p.conf.port v ≡ false = a.0 in
-    ap (λ (w : PortView). view_one w (map guest_item ps)) (unguest_view p.conf.port (guest_second p).guest_open v differ) ∙ others_say v ps a.1
+    elim (opens p) as (λ b. view_one v (cond b (Guest p.conf.port true ∷ opened_guests ps) (opened_guests ps)) ≡ v) [
+      | true ↦ ap (λ (w : PortView). view_one w (opened_guests ps)) (unguest_view p.conf.port true v differ) ∙ others_say v ps a.1
+      | false ↦ others_say v ps a.1
+    ]
 
 port_in : {p : Port} {ps : List Port} → In p ps → In p.conf.port (map (λ c. c.port) (confs ps))
 port_in here = here
 port_in (there i) = there (port_in i)
 
-one_says : (ps : List Port) → IsDistinct nat_eq (map (λ c. c.port) (confs ps)) → (p : Port) → In p ps → view_one (view p) (map guest_item ps) ≡ view (guest_second p)
+-- what a second makes of a port that it opens, and of another
+open_by : (a b : Bool) → a && not b ≡ true → b || a ≡ true
+open_by true false e = refl
+open_by true true e = cc
+open_by false b e = cc
+
+shut_by : (a b : Bool) → a && not b ≡ false → b || a ≡ b
+shut_by true true e = refl
+shut_by true false e = cc
+shut_by false true e = refl
+shut_by false false e = refl
+
+one_says : (ps : List Port) → IsDistinct nat_eq (map (λ c. c.port) (confs ps)) → (p : Port) → In p ps → view_one (view p) (opened_guests ps) ≡ view (guest_second p)
 unfolding IsDistinct
 one_says [] d p i = elim i [ ]
-one_says (q ∷ ps) d p here =
-    ap (λ (w : PortView). view_one w (map guest_item ps)) (guest_view p.conf.port (guest_second p).guest_open (view p) ((unsigned_Decides p.conf.port p.conf.port).1 refl)) ∙ others_say (view (guest_second p)) ps d.0
+one_says (q ∷ ps) d p here = elim (opens p) as (λ b. opens p ≡ b → view_one (view p) (cond b (Guest p.conf.port true ∷ opened_guests ps) (opened_guests ps)) ≡ view (guest_second p)) [
+  | true ↦ λ e.
+      ap (λ (w : PortView). view_one w (opened_guests ps)) (guest_view p.conf.port true (view p) ((unsigned_Decides p.conf.port p.conf.port).1 refl)) ∙ others_say (record (view p) { guest_open = true }) ps d.0
+      ∙ ap (λ (g : Bool). record (view p) { guest_open = g }) (sym (open_by (p.guest_while == 1) p.guest_open e))
+  | false ↦ λ e. others_say (view p) ps d.0 ∙ ap (λ (g : Bool). record (view p) { guest_open = g }) (sym (shut_by (p.guest_while == 1) p.guest_open e))
+] refl
 one_says (q ∷ ps) d p (there i) =
     let differ : is_view q.conf.port (view p) ≡ false = not_equal q.conf.port p.conf.port (of_each (λ n. nat_eq q.conf.port n ≡ false) d.0 (port_in i)) in
-    ap (λ (w : PortView). view_one w (map guest_item ps)) (unguest_view q.conf.port (guest_second q).guest_open (view p) differ) ∙ one_says ps d.1 p i
+    elim (opens q) as (λ b. view_one (view p) (cond b (Guest q.conf.port true ∷ opened_guests ps) (opened_guests ps)) ≡ view (guest_second p)) [
+      | true ↦ ap (λ (w : PortView). view_one w (opened_guests ps)) (unguest_view q.conf.port true (view p) differ) ∙ one_says ps d.1 p i
+      | false ↦ one_says ps d.1 p i
+    ]
 
-all_say : (qs ps : List Port) → ((p : Port) → In p ps → view_one (view p) (map guest_item qs) ≡ view (guest_second p)) → views_after (map view ps) (map guest_item qs) ≡ map view (map guest_second ps)
+all_say : (qs ps : List Port) → ((p : Port) → In p ps → view_one (view p) (opened_guests qs) ≡ view (guest_second p)) → views_after (map view ps) (opened_guests qs) ≡ map view (map guest_second ps)
 all_say qs [] f = views_none qs
 all_say qs (p ∷ ps) f = views_each (view p) (map view ps) qs ∙ (λ i. f p here i ∷ all_say qs ps (λ r j. f r (there j)) i)
 
-guests_said : (ps : List Port) (port : ℕ) (address : List ℕ) (o : Option Right) → all_said port address (map guest_item ps) o ≡ o
+guests_said : (ps : List Port) (port : ℕ) (address : List ℕ) (o : Option Right) → all_said port address (opened_guests ps) o ≡ o
 guests_said [] port address o = refl
-guests_said (p ∷ ps) port address o = guests_said ps port address o
+guests_said (p ∷ ps) port address o = elim (opens p) as (λ b. all_said port address (cond b (Guest p.conf.port true ∷ opened_guests ps) (opened_guests ps)) o ≡ o) [
+  | true ↦ guests_said ps port address o
+  | false ↦ guests_said ps port address o
+]
 
-guests_room : (ps : List Port) (f : Rights) → AreRoomy f → StayRoomy f (map guest_item ps)
+guests_room : (ps : List Port) (f : Rights) → AreRoomy f → StayRoomy f (opened_guests ps)
 guests_room [] f r = tt
-guests_room (p ∷ ps) f r = (r, guests_room ps f r)
+guests_room (p ∷ ps) f r = elim (opens p) as (λ b. StayRoomy f (cond b (Guest p.conf.port true ∷ opened_guests ps) (opened_guests ps))) [
+  | true ↦ (r, guests_room ps f r)
+  | false ↦ guests_room ps f r
+]
 
-map_length : (ps : List Port) → length (map guest_item ps) ≡ length ps
-map_length [] = refl
-map_length (p ∷ ps) = ap suc (map_length ps)
+pub few_opened : (ps : List Port) → length (opened_guests ps) ≤ length ps
+few_opened [] = omega arith
+few_opened (p ∷ ps) =
+    let rest : length (opened_guests ps) ≤ length ps = few_opened ps in
+    elim (opens p) as (λ b. length (cond b (Guest p.conf.port true ∷ opened_guests ps) (opened_guests ps)) ≤ suc (length ps)) [
+      | true ↦ omega (arith, rest)
+      | false ↦ omega (arith, rest)
+    ]
 
 one_conf : (ps : List Port) → IsDistinct nat_eq (map (λ c. c.port) (confs ps)) → (p : Port) → In p ps → conf_of p.conf.port (confs ps) ≡ Some p.conf
 unfolding IsDistinct
@@ -441,15 +542,20 @@ guest_fits true guest f = by (guest == 0) refl
     by false e = refl
     by true e = (let no : true ≡ false = f ((unsigned_Decides guest 0).0 e) in cc)
 
-guests_allowed : (qs ps : List Port) → ((p : Port) → In p qs → conf_of p.conf.port (confs ps) ≡ Some p.conf) → AllByRecursion MayHaveGuests qs → AllByRecursion (IsAllowed (confs ps)) (map guest_item qs)
+guests_allowed : (qs ps : List Port) → ((p : Port) → In p qs → conf_of p.conf.port (confs ps) ≡ Some p.conf) → AllByRecursion MayHaveGuests qs → AllByRecursion (IsAllowed (confs ps)) (opened_guests qs)
 guests_allowed [] ps f g = tt
 guests_allowed (q ∷ qs) ps f g =
-    (subst (λ (o : Option PortConf). allowed_by (guest_item q) o ≡ true) (sym (f q here)) (guest_fits (guest_second q).guest_open q.conf.guest (mild_second.guests q g.0).shut), guests_allowed qs ps (λ p i. f p (there i)) g.1)
+    let rest = guests_allowed qs ps (λ p i. f p (there i)) g.1 in
+    elim (opens q) as (λ b. opens q ≡ b → AllByRecursion (IsAllowed (confs ps)) (cond b (Guest q.conf.port true ∷ opened_guests qs) (opened_guests qs))) [
+      | true ↦ λ e.
+          let on : (guest_second q).guest_open ≡ true = open_by (q.guest_while == 1) q.guest_open e in
+          let shut : q.conf.guest ≡ 0 → true ≡ false = λ k. sym on ∙ (mild_second.guests q g.0).shut k in
+          (subst (λ (o : Option PortConf). allowed_by (Guest q.conf.port true) o ≡ true) (sym (f q here)) (guest_fits true q.conf.guest shut), rest)
+      | false ↦ λ e. rest
+    ] refl
 
-pub told_guests : (s : State) → IsDistinct nat_eq (map (λ c. c.port) (confs s.ports)) → AllByRecursion MayHaveGuests s.ports → Told (length s.ports) s (guests_second s)
-told_guests s d g = record {
-  items = map guest_item s.ports;
-  few = (let e : length (map guest_item s.ports) ≡ length s.ports = map_length s.ports in omega (arith, e));
+pub by_guests : (s : State) → IsDistinct nat_eq (map (λ c. c.port) (confs s.ports)) → AllByRecursion MayHaveGuests s.ports → ToldBy (opened_guests s.ports) s (guests_second s)
+by_guests s d g = record {
   leads = record {
     ports = all_say s.ports s.ports (one_says s.ports d);
     rights = λ port address. guests_said s.ports port address (authorised s port address) ∙ sym (right_same s (guests_second s) port address (confs_map _ (λ p. refl) s.ports) refl);
@@ -459,6 +565,9 @@ told_guests s d g = record {
   allowed = guests_allowed s.ports s.ports (one_conf s.ports d) g;
   room = λ k. guests_room s.ports (authorised s) (state_roomy s k.few);
 }
+
+pub told_guests : (s : State) → IsDistinct nat_eq (map (λ c. c.port) (confs s.ports)) → AllByRecursion MayHaveGuests s.ports → Told (length s.ports) s (guests_second s)
+told_guests s d g = record { items = opened_guests s.ports; few = few_opened s.ports; by = by_guests s d g }
 
 -- ---- events
 
@@ -575,7 +684,7 @@ told_each [] s v c r a = told_zero s
 told_each (y ∷ ys) s v c r a =
     let u : State = (second_of y s).state in
     let first = told_second_by (y.standing.end_while == 1) y s v.0 (record { here = c.0; restricted = r; vlans = a }) in
-    let rest = told_each ys u v.1 (subst (λ (cs : List PortConf). AreConfigured cs ys) (sym first.settings) c.1) (subst AreRestricted (sym first.settings) r) (vlans_second y s v.0 a) in
+    let rest = told_each ys u v.1 (subst (λ (cs : List PortConf). AreConfigured cs ys) (sym first.by.settings) c.1) (subst AreRestricted (sym first.by.settings) r) (vlans_second y s v.0 a) in
     told_weaker {n = 1 + length ys} (omega arith) (told_then {n = 1} {m = length ys} s u (each_second ys u).state first rest)
 
 told_close_all : (ys : List Session) (s : State) → AreConfigured (confs s.ports) ys → AreRestricted (confs s.ports) → AreVlans s.sessions → Told (length ys) s (close_all ys s)
@@ -583,7 +692,7 @@ told_close_all [] s c r a = told_zero s
 told_close_all (y ∷ ys) s c r a =
     let u : State = close y.host s in
     let first = told_close y.host s (record { here = c.0; restricted = r; vlans = a }) in
-    let rest = told_close_all ys u (subst (λ (cs : List PortConf). AreConfigured cs ys) (sym first.settings) c.1) (subst AreRestricted (sym first.settings) r) (vlans_close y.host s a) in
+    let rest = told_close_all ys u (subst (λ (cs : List PortConf). AreConfigured cs ys) (sym first.by.settings) c.1) (subst AreRestricted (sym first.by.settings) r) (vlans_close y.host s a) in
     told_weaker {n = 1 + length ys} (omega arith) (told_then {n = 1} {m = length ys} s u (close_all ys u) first rest)
 
 -- what is known before a port is closed
@@ -598,7 +707,7 @@ told_close_port n s k =
     let l : length (on_port_of n s) ≤ length s.sessions = fewer _ s.sessions in
     let u : State = close_all (on_port_of n s) s in
     let first = told_close_all (on_port_of n s) s (each_filter (λ y. HasConf (confs s.ports) y.host.port) (on_port n) s.sessions k.hosts) k.restricted k.vlans in
-    told_weaker {n = length (on_port_of n s) + 1} (omega (arith, l)) (told_then {n = length (on_port_of n s)} {m = 1} s u (no_guests n u) first (told_no_guests n u (subst (λ (cs : List PortConf). HasConf cs n) (sym first.settings) k.here)))
+    told_weaker {n = length (on_port_of n s) + 1} (omega (arith, l)) (told_then {n = length (on_port_of n s)} {m = 1} s u (no_guests n u) first (told_no_guests n u (subst (λ (cs : List PortConf). HasConf cs n) (sym first.by.settings) k.here)))
 
 all_configured : {turns : ℕ} (s : State) → IsSound turns s → AreConfigured (confs s.ports) s.sessions
 all_configured s a = each_in (λ y. HasConf (confs s.ports) y.host.port) s.sessions (λ y i. session_conf s y a i)
@@ -646,7 +755,7 @@ told_control_by false control q s c a =
     let first = told_close_port n s (closes n s a c) in
     told_weaker {n = (length s.sessions + 1) + 1} (omega arith)
     (told_then {n = length s.sessions + 1} {m = 1} s u (control_by false control q s).state first
-    (told_then {n = 1} {m = 0} u v (control_by false control q s).state (told_set_control n control u (subst (λ (cs : List PortConf). HasConf cs n) (sym first.settings) c)) (told_up_if q.link q control v)))
+    (told_then {n = 1} {m = 0} u v (control_by false control q s).state (told_set_control n control u (subst (λ (cs : List PortConf). HasConf cs n) (sym first.by.settings) c)) (told_up_if q.link q control v)))
 
 told_control : {turns : ℕ} (control : Control) (n : ℕ) (o : Option Port) (s : State) → port_of n s ≡ o → IsSound turns s → Told (length s.sessions + 2) s (do_control control o s).state
 told_control control n None s e a = told_weaker (omega arith) (told_zero s)
@@ -669,7 +778,11 @@ told_turn s event.Second a = told_weaker (omega arith) (told_seconds s a)
 told_turn s (event.Link port up) a = told_weaker (omega arith) (told_link up port (port_of port s) s refl a)
 told_turn s (event.SetControl port control) a = told_weaker (omega arith) (told_control control port (port_of port s) s refl a)
 
+-- so few items as there are sessions and ports, and two more, tell of a turn
+pub tells_by : {turns : ℕ} {is : List Item} {s t : State} → IsSound turns s → ToldBy is s t → length is ≤ length s.sessions + length s.ports + 2 → Tells s is t
+tells_by a b few = record { leads = b.leads; allowed = b.allowed; room = b.room a.hosts; few = few }
+
 pub told : IsTold
 told n s e a =
     let t = told_turn s e a in
-    (t.items, record { leads = t.leads; allowed = t.allowed; room = t.room a.hosts; few = t.few })
+    (t.items, tells_by a t.by t.few)
