@@ -8,6 +8,7 @@ use Rattle.wire_defs.specs.declared.EapDrop.TheVariants.{Short, BadCode as BadEa
 use Rattle.wire_defs.specs.Number.{pair}
 use Rattle.wire_defs.specs.Eap.{Eap, eap_of as eap_packet_of, is_code, is_bad_length, fields_of, canned}
 use Rattle.machine_vars.specs.declared.control.Times.{Times}
+use Rattle.machine_vars.specs.declared.vars.Vars.{Vars}
 use Rattle.machine_defs.specs.Live.{InRange, IsProper}
 use Rattle.radius_defs.specs.declared.Timeout.{Timeout}
 use Rattle.radius_defs.specs.declared.Timeout.TheVariants.{Unset, End, Reauth}
@@ -22,8 +23,9 @@ use Rattle.radius_defs.specs.Grant.{grant_from, grant_of}
 use Rattle.aaa_defs.specs.declared.AaaDrop.{AaaDrop}
 use Rattle.aaa_defs.specs.Waits.{Pending, Waits, name_of, pending_under}
 use Rattle.aaa_defs.specs.Answer.{Taking, has_eap, may_carry, carried_in, eap_carried, first_failed, checks, taken_from, answered_by, answered_in, answered}
-use Rattle.switch_defs.specs.Switch.{Standing, Session, State, port_of, session_numbered}
-use Rattle.switch_defs.specs.Answer.{Said, or_else, period_of, challenged, rejected, accepted, says, Answered, Refused, Told, told, told_by, answered_on, native_of}
+use Rattle.switch_defs.specs.Switch.{Session, State, port_of, session_numbered}
+use Rattle.switch_defs.specs.Answer.{event_of, kept_of, Answered, Refused, Told, told, told_by, answered_on, native_of}
+use Rattle.aaa_defs.specs.Said.{Said, Kept, said, or_else, period_of, challenged, challenge_word, rejected, accepted}
 use Rattle.switch_defs.specs.Sound.{In}
 use Rattle.switch_defs.proofs.Lists.{in_found}
 
@@ -161,33 +163,35 @@ else_long : (o : Option (List ℕ)) (success : Bool) (id : ℕ) → IsLong o →
 else_long None success id l = omega arith
 else_long (Some eap) success id l = omega (arith, l)
 
-challenged_proper : (p : Packet) (o : Option (List ℕ)) (x : Standing) → IsLong o → IsProper (challenged p o x).event x.vars
-challenged_proper p None x l = tt
-challenged_proper p (Some eap) x l = omega (arith, l)
+challenged_proper : (p : Packet) (o : Option (List ℕ)) (v : Vars) → IsLong o → IsProper (event_of (challenge_word p o)) v
+challenged_proper p None v l = tt
+challenged_proper p (Some eap) v l = omega (arith, l)
 
-accepted_proper : (g : Result Grant Unfit) (t : Times) (o : Option (List ℕ)) (x : Standing) → IsGrantSome g → InRange t → IsLong o → IsProper (accepted g t o x).event x.vars
-accepted_proper (Err unfit) t o x s r l = omega arith
-accepted_proper (Ok g) t o x s r l = (else_long o true x.vars.current_id l, period_some g.timeout t s r)
+accepted_proper : (g : Result Grant Unfit) (t : Times) (o : Option (List ℕ)) (k : Kept) (v : Vars) → IsGrantSome g → InRange t → IsLong o → IsProper (event_of (accepted g t v.current_id o k).word) v
+accepted_proper (Err unfit) t o k v s r l = omega arith
+accepted_proper (Ok g) t o k v s r l = (else_long o true v.current_id l, period_some g.timeout t s r)
 
-if_proper : (b : Bool) (x y : Said) (z : Standing) → IsProper x.event z.vars → IsProper y.event z.vars → IsProper (if b then x else y).event z.vars
-if_proper true x y z p q = p
-if_proper false x y z p q = q
+if_proper : (b : Bool) (x y : Said) (v : Vars) → IsProper (event_of x.word) v → IsProper (event_of y.word) v → IsProper (event_of (if b then x else y).word) v
+if_proper true x y v p q = p
+if_proper false x y v p q = q
 
-pub says_proper : (p : Packet) (o : Option (List ℕ)) (native : ℕ) (t : Times) (x : Standing) → InRange t → IsLong o → IsProper (says p o native t x).event x.vars
-says_proper p o native t x r l =
-    if_proper (p.code == 11) (challenged p o x) _ x (challenged_proper p o x l)
-    (if_proper (p.code == 2) (accepted (grant_of p.attributes native) t o x) (rejected (or_else o (canned false x.vars.current_id)) x) x
-    (accepted_proper (grant_of p.attributes native) t o x (grant_some (tunnel_of p.attributes) (timeout_of p.attributes) native (timeout_some p)) r l) (else_long o false x.vars.current_id l))
+pub said_proper : (t : Taking) (native : ℕ) (times : Times) (k : Kept) (v : Vars) → InRange times → IsLong t.eap → IsProper (event_of (said t native times v.current_id k).word) v
+said_proper t native times k v r l =
+    let p : Packet = t.packet in
+    let o : Option (List ℕ) = t.eap in
+    if_proper (p.code == 11) (challenged p o k) _ v (challenged_proper p o v l)
+    (if_proper (p.code == 2) (accepted (grant_of p.attributes native) times v.current_id o k) (rejected (or_else o (canned false v.current_id)) k) v
+    (accepted_proper (grant_of p.attributes native) times o k v (grant_some (tunnel_of p.attributes) (timeout_of p.attributes) native (timeout_some p)) r l) (else_long o false v.current_id l))
 
 -- ---- an answer is of a session that there is, and proper
 
 abbrev pub IsFit : State → Answered → Type 0
 IsFit s (Refused check) = Unit {0}
-IsFit s (Told y said) = In y s.sessions × IsProper said.event y.standing.vars
+IsFit s (Told y what) = In y s.sessions × IsProper (event_of what.word) y.standing.vars
 
 told_fits : (s : State) (t : Taking) (o : Option Session) → session_numbered t.session s ≡ o → InRange s.config.times → IsLong t.eap → IsFit s (told s t o)
 told_fits s t None e r l = tt
-told_fits s t (Some y) e r l = ((in_found (λ y. y.host.number == t.session) s.sessions y e).0, says_proper t.packet t.eap (native_of (port_of y.host.port s)) s.config.times y.standing r l)
+told_fits s t (Some y) e r l = ((in_found (λ y. y.host.number == t.session) s.sessions y e).0, said_proper t (native_of (port_of y.host.port s)) s.config.times (kept_of y.standing) y.standing.vars r l)
 
 told_by_fits : (s : State) (r : Result Taking AaaDrop) → InRange s.config.times → IsTakenLong r → IsFit s (told_by s r)
 told_by_fits s (Err drop) r l = tt

@@ -34,7 +34,8 @@ use Rattle.dynauth_defs.specs.declared.Action.TheVariants.{Disconnect, Change}
 use Rattle.dynauth_defs.specs.Judge.{Judged, Drop, Again, Nak, Ack, vlan_in}
 use Rattle.switch_defs.specs.Switch.{Port, Host, Standing, Session, State, is_port, port_of, is_at, session_numbered, is_vlan}
 use Rattle.switch_defs.specs.Session.{Cause, AnAnswer, Another, stands_as, place, is_other, close, forget, rested, forget_if, ask_if, close_if, follow, settle_session}
-use Rattle.switch_defs.specs.Answer.{Said, challenged, rejected, accepted, says, native_of, stands, or_else, Answered, Refused, Told, told, told_by, answered_on}
+use Rattle.switch_defs.specs.Answer.{native_of, kept_of, stands, Answered, Refused, Told, told, told_by, answered_on}
+use Rattle.aaa_defs.specs.Said.{Said, Kept, said, challenged, rejected, accepted, or_else}
 use Rattle.switch_defs.specs.Dynamic.{act, disconnected, changed, times_or, vlan_or, reply_to, row_of, judged_on}
 use Rattle.switch_defs.specs.Turn.{FrameCase, Dropped, Forces, Opens, Turns, frame_case, do_frame, opened, fresh_standing, with_session, set_vars, cause_of, do_answer, do_request, age_request, is_given_up, second_by, second_of, each_second, guests_second, tick, close_all, close_port, on_port_of, up_by, link_by, do_link, up_if, control_by, do_control, with_link, set_link, with_control, set_control, with_forced, turn}
 use Rattle.switch_defs.specs.Sound.{In, IsSound, IsOpenPort, MayHaveGuests, HasVlan, Fits, confs}
@@ -192,23 +193,20 @@ grants_vlan (Vlan n) time native f v = f
 grants_vlan Partial time native f v = tt
 grants_vlan Bad time native f v = tt
 
-accepted_vlan : (g : Result Grant Unfit) (t : Times) (eap : Option (List ℕ)) (x : Standing) → GrantsVlan g → is_vlan x.vlan ≡ true → is_vlan (accepted g t eap x).vlan ≡ true
-accepted_vlan (Err unfit) t eap x g v = v
-accepted_vlan (Ok grant) t eap x g v = g
+accepted_vlan : (g : Result Grant Unfit) (t : Times) (id : ℕ) (eap : Option (List ℕ)) (k : Kept) → GrantsVlan g → is_vlan k.vlan ≡ true → is_vlan (accepted g t id eap k).kept.vlan ≡ true
+accepted_vlan (Err unfit) t id eap k g v = v
+accepted_vlan (Ok grant) t id eap k g v = g
 
-challenged_vlan : (p : Packet) (eap : Option (List ℕ)) (x : Standing) → is_vlan x.vlan ≡ true → is_vlan (challenged p eap x).vlan ≡ true
-challenged_vlan p None x v = v
-challenged_vlan p (Some eap) x v = v
-
-vlan_if : (b : Bool) (x y : Said) → is_vlan x.vlan ≡ true → is_vlan y.vlan ≡ true → is_vlan (if b then x else y).vlan ≡ true
+vlan_if : (b : Bool) (x y : Said) → is_vlan x.kept.vlan ≡ true → is_vlan y.kept.vlan ≡ true → is_vlan (if b then x else y).kept.vlan ≡ true
 vlan_if true x y v w = v
 vlan_if false x y v w = w
 
-says_vlan : (p : Packet) (eap : Option (List ℕ)) (native : ℕ) (t : Times) (x : Standing) → is_vlan native ≡ true → is_vlan x.vlan ≡ true → is_vlan (says p eap native t x).vlan ≡ true
-says_vlan p eap native t x n v =
-    vlan_if (p.code == 11) (challenged p eap x) _ (challenged_vlan p eap x v)
-    (vlan_if (p.code == 2) (accepted (grant_of p.attributes native) t eap x) (rejected (or_else eap (canned false x.vars.current_id)) x)
-    (accepted_vlan (grant_of p.attributes native) t eap x (grants_vlan (tunnel_of p.attributes) (timeout_of p.attributes) native (is_tunnel p) n) v) v)
+said_vlan : (t : Taking) (native : ℕ) (times : Times) (id : ℕ) (k : Kept) → is_vlan native ≡ true → is_vlan k.vlan ≡ true → is_vlan (said t native times id k).kept.vlan ≡ true
+said_vlan t native times id k n v =
+    let p : Packet = t.packet in
+    vlan_if (p.code == 11) (challenged p t.eap k) _ v
+    (vlan_if (p.code == 2) (accepted (grant_of p.attributes native) times id t.eap k) (rejected (or_else t.eap (canned false id)) k)
+    (accepted_vlan (grant_of p.attributes native) times id t.eap k (grants_vlan (tunnel_of p.attributes) (timeout_of p.attributes) native (is_tunnel p) n) v) v)
 
 open_native : {turns : ℕ} (s : State) (n : ℕ) (o : Option Port) → IsSound turns s → port_of n s ≡ o → IsOpenPort o → is_vlan (native_of o) ≡ true
 open_native s n None a e p = absurd p
@@ -216,14 +214,14 @@ open_native s n (Some q) a e p = native_vlan s n q a e
 
 abbrev pub SaysVlan : Answered → Type 0
 SaysVlan (Refused check) = Unit {0}
-SaysVlan (Told y said) = is_vlan said.vlan ≡ true
+SaysVlan (Told y what) = is_vlan what.kept.vlan ≡ true
 
 told_vlan : {turns : ℕ} (s : State) (t : Taking) (o : Option Session) → session_numbered t.session s ≡ o → IsSound turns s → SaysVlan (told s t o)
 told_vlan s t None e a = tt
 told_vlan s t (Some y) e a =
     let i = (in_found (λ y. y.host.number == t.session) s.sessions y e).0 in
     let open_port : IsOpenPort (port_of y.host.port s) = of_each (λ h. IsOpenPort (port_of h.port s)) a.placed (in_map (λ (y : Session). y.host) i) in
-    says_vlan t.packet t.eap (native_of (port_of y.host.port s)) s.config.times y.standing (open_native s y.host.port (port_of y.host.port s) a refl open_port) (of_each HasVlan a.vlans i)
+    said_vlan t (native_of (port_of y.host.port s)) s.config.times y.standing.vars.current_id (kept_of y.standing) (open_native s y.host.port (port_of y.host.port s) a refl open_port) (of_each HasVlan a.vlans i)
 
 told_by_vlan : {turns : ℕ} (s : State) (r : Result Taking AaaDrop) → IsSound turns s → SaysVlan (told_by s r)
 told_by_vlan s (Err drop) a = tt

@@ -37,7 +37,8 @@ use Rattle.dynauth_defs.specs.declared.Action.TheVariants.{Disconnect, Change}
 use Rattle.dynauth_defs.specs.Session.{Row}
 use Rattle.dynauth_defs.specs.Judge.{Judged, Drop, Again, Nak, Ack, judged}
 use Rattle.switch_defs.proofs.Judging.{Acks, judged_acks}
-use Rattle.switch_defs.specs.Answer.{Said, Answered, Refused, Told, stands, again_of, period_of, answered_on}
+use Rattle.switch_defs.specs.Answer.{event_of, Answered, Refused, Told, stands, answered_on}
+use Rattle.aaa_defs.specs.Said.{Said, again_of, period_of}
 use Rattle.switch_defs.specs.Dynamic.{times_or, vlan_or, disconnected, changed, act, reply_to, row_of, judged_on}
 use Rattle.switch_defs.specs.Turn.{FrameCase, Dropped, Forces, Opens, Turns, do_frame, opened, fresh_standing, with_session, set_vars, cause_of, do_answer, age_request, is_given_up, second_by, second_of, each_second, close_all, close_port, on_port_of, frame_case, do_request, tick, guests_second, up_by, up_if, link_by, do_link, control_by, do_control, set_link, set_control, turn}
 use Rattle.switch_defs.specs.Sound.{In, here, there, AreHosts, AreApart, IsAtRest, SomeHost, AreOwned, Rests, Fine, MaySettle, FromHost, start, logoff, packet, Fits}
@@ -192,12 +193,12 @@ but_forgotten y w ys o r = record {
   order = order_filter _ 0 w.requests r.order;
 }
 
-pub may_answer : (y : Session) (said : Said) (s : State) → In y s.sessions → IsProper said.event y.standing.vars → AreHosts (hosts s) s.next → Rests s.waits s.sessions → MaySettle y.host (stands said y.standing) (forget y.host s)
+pub may_answer : (y : Session) (said : Said) (s : State) → In y s.sessions → IsProper (event_of said.word) y.standing.vars → AreHosts (hosts s) s.next → Rests s.waits s.sessions → MaySettle y.host (stands said y.standing) (forget y.host s)
 may_answer y said s i p a r =
     let o = only_one a (host_in i) in
     let rest = at_rest s r i in
-    may_turn said.event s.waits y (forget y.host s) (stands said y.standing) refl (host_in i) (but_forgotten y s.waits s.sessions o r) rest p
-    (fine_free (is_some (pending_of y.host.number (forgotten y.host.number s.waits))) _ (ap is_some (forgotten-none y.host.number s.waits)) (asks_of said.event s.waits y rest p))
+    may_turn (event_of said.word) s.waits y (forget y.host s) (stands said y.standing) refl (host_in i) (but_forgotten y s.waits s.sessions o r) rest p
+    (fine_free (is_some (pending_of y.host.number (forgotten y.host.number s.waits))) _ (ap is_some (forgotten-none y.host.number s.waits)) (asks_of (event_of said.word) s.waits y rest p))
 
 pub rests_answer : (s : State) (k : Answered) → IsFit s k → AreHosts (hosts s) s.next → Rests s.waits s.sessions → Rests (do_answer s k).state.waits (do_answer s k).state.sessions
 rests_answer s (Refused check) f a r = r

@@ -19,7 +19,7 @@ use Rattle.switch_event.specs.Sent.{Sent, ToClient}
 use Rattle.switch_event.specs.Frames.{to_peer}
 use Rattle.switch_defs.specs.Switch.{Standing, Session, State, Did, only, session_numbered}
 use Rattle.switch_defs.specs.Session.{place, close}
-use Rattle.switch_defs.specs.Answer.{end_of, again_of, period_of}
+use Rattle.aaa_defs.specs.Said.{end_of, again_of, period_of}
 
 -- ---- what a request can know sessions by
 
