@@ -98,6 +98,7 @@ impl<T: Drop> Slots<T> {
         ensures room { OnOk result (count_on port self.old < 16) }
         ensures full { OnErr result (count_on port self.old ≡ 16) }
         ensures same { OnErr result (self.new ≡ self.old) }
+        ensures table { IsTable self.new }
     {
         let first = HOSTS * usize::from(port - 1);
         let Some(at) = free_in(self.hosts.as_slice(), first) else {
@@ -140,6 +141,7 @@ impl<T: Drop> Slots<T> {
     pub fn remove(&mut self, at: usize) -> Option<T>
         ensures value { result ≡ value_at at self.old }
         ensures others { self.new ≡ filter (is_other at) self.old }
+        ensures table { IsTable self.new }
     {
         if self.get(at).is_none() {
             return None;
