@@ -77,6 +77,10 @@ fn a_value_is_changed_in_its_place_and_taken_out_once(rt: HostRuntime) -> Result
     assert_eq!(rt; slots.get(16).copied(), Some(13));
     assert_eq!(rt; slots.get(0).copied(), None);
     assert_eq!(rt; slots.remove(960), None);
+    let mut other = Slots::open(rt.alloc())?;
+    assert_eq!(rt; hold(&mut other, 7, 7, 14), Some(96));
+    other.copy_from(&slots);
+    assert!(rt; is_as(&other, &[(2, 1, 13)]));
     Ok(())
 }
 
