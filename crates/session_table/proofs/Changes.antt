@@ -1,5 +1,5 @@
 -- What a table keeps once a place is taken, given up, or has another value; and what every table is.
-use Rattle.std.proofs.Common.{◌≡◌, ◌≢◌, inl, inr, ℕ, suc, ◌+◌, ◌-◌, ◌<◌, ◌≤◌, refl, sym, ap, subst, ◌∙◌, List, [], ◌∷◌, ◌++◌, length, map, filter, Some, None, Option, Bool, true, false, cond, not, eqb, get_or, set, replicate, arith, length-set}
+use Rattle.std.proofs.Common.{◌≡◌, ◌≢◌, inl, inr, ℕ, ◌+◌, ◌-◌, ◌<◌, ◌≤◌, refl, sym, ap, subst, ◌∙◌, List, [], ◌∷◌, ◌++◌, length, filter, Some, None, Option, Bool, true, false, cond, not, eqb, get_or, set, replicate, arith, length-set}
 use Rattle.std.specs.Prelude.{◌==◌, ◌&&◌, ◌||◌, filter_map, is_some, is_none}
 use Rattle.std.specs.Option.{option_map}
 use Rattle.std.specs.Str.{bytes_eq}
@@ -14,9 +14,9 @@ use Rattle.std.proofs.lemmas.Map.Made.{is_member-filter}
 use Rattle.std.proofs.lemmas.Map.Steps.{length-le_from_distinct_below}
 use Rattle.std.proofs.lemmas.Slice.Eq.{bytes_eq-Decides}
 use Rattle.wire_core.specs.declared.address.Mac.{Mac}
-use Rattle.session_table.specs.Slots.{Entry, IsPlaced, IsTable, IsTakenFor, are_one, count_on, first_place, held_at, is_for, is_other, is_port, place_for, places_of, port_of, renewed, value_at, with_value}
-use Rattle.session_table.specs.Rows.{AreKept, FoundBy, count_held, entries_of, entry, has_mac, holds_mac, host_at, is_free, is_held, row}
-use Rattle.session_table.proofs.Orders.{each_listed, in_rest, left_out, listed_alike, listed_by, not_later}
+use Rattle.session_table.specs.Slots.{Entry, IsPlaced, IsTable, IsTakenFor, are_one, count_on, first_place, is_other, is_port, place_for, port_of, renewed, with_value}
+use Rattle.session_table.specs.Rows.{AreKept, FoundBy, entries_of, entry, has_mac, holds_mac, host_at, is_free, is_held, row}
+use Rattle.session_table.proofs.Orders.{each_listed, left_out, listed_alike, listed_by, not_later}
 use Rattle.session_table.proofs.Counts.{all_count, fewer}
 use Rattle.session_table.proofs.Kept as kept_by
 

@@ -1,12 +1,12 @@
 -- How many of some places in a row hold something.
-use Rattle.std.proofs.Common.{◌≡◌, ◌≢◌, ◌⊎◌, inl, inr, ℕ, zero, suc, ◌+◌, ◌<◌, ◌≤◌, refl, sym, ap, subst, ◌∙◌, List, [], ◌∷◌, length, filter, Some, None, Option, Bool, true, false, cond, eqb, arith, add-one}
+use Rattle.std.proofs.Common.{◌≡◌, ◌≢◌, inl, inr, ℕ, zero, suc, ◌+◌, ◌<◌, ◌≤◌, refl, sym, ap, subst, ◌∙◌, List, [], ◌∷◌, length, filter, Some, None, Option, Bool, true, false, cond, eqb, arith}
 use Rattle.std.specs.Prelude.{filter_map, is_some, ◌||◌}
 use Rattle.std.specs.List.{IsDistinct, cons_option, list_any}
-use Rattle.std.proofs.lemmas.Bool.{both_ways, cases_Bool, cases_eq, cases_lt, eq-eqb, ne_eqb}
+use Rattle.std.proofs.lemmas.Bool.{both_ways, cases_eq, eq-eqb, ne_eqb}
 use Rattle.std.proofs.lemmas.Map.Keys.{IsDistinct-head, IsDistinct-tail}
 use Rattle.session_table.specs.Slots.{Entry}
 use Rattle.session_table.specs.Rows.{count_held}
-use Rattle.session_table.proofs.Orders.{AreInPlace, listed_alike, not_later}
+use Rattle.session_table.proofs.Orders.{listed_alike, not_later}
 
 -- no more than there are
 pub most : (asked : ℕ → Bool) (first n : ℕ) → count_held asked first n ≤ n

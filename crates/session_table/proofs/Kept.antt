@@ -1,19 +1,17 @@
 -- What the fields of a table keep, and how the list of entries follows from it.
-use Rattle.std.proofs.Common.{◌≡◌, ◌≢◌, ◌⊎◌, inl, inr, ℕ, ◌+◌, ◌*◌, ◌-◌, ◌/◌, ◌<◌, ◌≤◌, refl, sym, ap, subst, ◌∙◌, List, [], ◌∷◌, ◌++◌, length, map, filter, Some, None, Option, Bool, true, false, cond, not, eqb, get_or, set, arith}
-use Rattle.std.specs.Prelude.{◌==◌, ◌&&◌, ◌||◌, find, filter_map, is_some, is_none, nat_lt, slice_get}
+use Rattle.std.proofs.Common.{◌≡◌, ◌⊎◌, inl, inr, ℕ, ◌+◌, ◌-◌, ◌<◌, ◌≤◌, refl, sym, ap, subst, ◌∙◌, List, Some, None, Option, Bool, true, false, eqb, get_or, arith}
+use Rattle.std.specs.Prelude.{◌==◌, find, is_some, nat_lt}
 use Rattle.std.specs.Option.{option_map}
 use Rattle.std.specs.Str.{bytes_eq}
-use Rattle.std.specs.List.{AllByRecursion, IsDistinct, list_any}
-use Rattle.std.proofs.lemmas.Bool.{and_from, and_left, and_parts, both_ways, cases_Bool, cases_eq, cases_lt, eq-eqb, eqb-true, false_from_ne_true, lt-ltb, ltb-true, ne_eqb, or_right, true_from_ne_false}
+use Rattle.std.specs.List.{list_any}
+use Rattle.std.proofs.lemmas.Bool.{and_from, and_left, and_parts, both_ways, cases_lt, eq-eqb, eqb-true, false_from_ne_true, lt-ltb, ltb-true, ne_eqb}
 use Rattle.std.proofs.lemmas.Option.{same_Some}
 use Rattle.std.proofs.lemmas.List.{get_or_past}
-use Rattle.std.proofs.lemmas.List.Elements.{filter_agree}
-use Rattle.std.proofs.lemmas.Slice.Eq.{bytes_eq-Decides}
 use Rattle.wire_core.specs.declared.address.Mac.{Mac}
-use Rattle.session_table.specs.Slots.{Entry, count_on, first_place, held_at, is_at, is_for, is_on, is_other, is_port, key_at, key_of, place_for, places_of, port_of, value_at, with_value}
-use Rattle.session_table.specs.Rows.{AreKept, FoundBy, count_held, entries_of, entry, has_mac, holds_mac, host_at, is_free, is_held, row}
-use Rattle.session_table.proofs.Orders.{AreInPlace, each_listed, found_at, found_nowhere, held_is, left_out, listed_by, places_listed}
-use Rattle.session_table.proofs.Counts.{Selects, all_count, counted, fewer, same_count}
+use Rattle.session_table.specs.Slots.{Entry, count_on, first_place, held_at, is_for, is_on, is_port, key_at, key_of, place_for, places_of, port_of, value_at}
+use Rattle.session_table.specs.Rows.{AreKept, FoundBy, count_held, entries_of, entry, has_mac, holds_mac, host_at, is_held, row}
+use Rattle.session_table.proofs.Orders.{AreInPlace, found_at, found_nowhere, held_is, places_listed}
+use Rattle.session_table.proofs.Counts.{counted, same_count}
 
 -- ---- ports and their places
 

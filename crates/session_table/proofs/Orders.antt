@@ -1,6 +1,6 @@
 -- Entries by their places, listed in some order. A row says what is at each place.
-use Rattle.std.proofs.Common.{◌≡◌, ◌≢◌, inl, inr, ℕ, refl, sym, ap, subst, ◌∙◌, List, [], ◌∷◌, map, filter, Some, None, Option, Bool, true, false, cond, not, eqb, arith}
-use Rattle.std.specs.Prelude.{◌==◌, ◌||◌, find, filter_map, is_some}
+use Rattle.std.proofs.Common.{◌≡◌, ◌≢◌, inl, inr, ℕ, refl, sym, ap, subst, ◌∙◌, List, [], ◌∷◌, map, filter, Some, None, Option, Bool, true, false, cond, not, eqb}
+use Rattle.std.specs.Prelude.{◌==◌, find, filter_map, is_some}
 use Rattle.std.specs.Option.{option_map}
 use Rattle.std.specs.List.{AllByRecursion, cons_option, list_any}
 use Rattle.std.proofs.lemmas.Bool.{both_ways, eq-eqb, eqb-true, ne_eqb, or_cases, or_parts, or_right}

@@ -1,17 +1,16 @@
 -- Every table: an entry is one by its place and one by its host; and what is left of a table, or renewed in it.
-use Rattle.std.proofs.Common.{◌≡◌, ◌≢◌, inl, inr, ℕ, zero, suc, ◌≤◌, refl, sym, ap, subst, ◌∙◌, List, [], ◌∷◌, length, map, filter, Some, None, Option, Bool, true, false, cond, not, eqb, arith}
-use Rattle.std.specs.Prelude.{◌==◌, ◌&&◌, find, slice_get}
-use Rattle.std.specs.Bool.{Decides}
+use Rattle.std.proofs.Common.{◌≡◌, ◌≢◌, ℕ, zero, suc, refl, sym, ap, subst, ◌∙◌, List, [], ◌∷◌, map, filter, Some, None, Option, Bool, true, false, cond, not, eqb}
+use Rattle.std.specs.Prelude.{◌==◌, find, slice_get}
 use Rattle.std.specs.Option.{option_map}
 use Rattle.std.specs.Str.{bytes_eq}
 use Rattle.std.specs.List.{AllByRecursion, IsDistinct}
 use Rattle.std.proofs.lemmas.Bool.{and_from, and_parts, eq-eqb, eqb-true, ne_eqb}
 use Rattle.std.proofs.lemmas.Bool.Decides.{Decides-eqb, same_from_decides}
 use Rattle.std.proofs.lemmas.List.{length-map}
-use Rattle.std.proofs.lemmas.Map.Keys.{IsDistinct-cons, IsDistinct-head, IsDistinct-tail}
+use Rattle.std.proofs.lemmas.Map.Keys.{IsDistinct-head, IsDistinct-tail}
 use Rattle.std.proofs.lemmas.Option.{same_Some}
 use Rattle.std.proofs.lemmas.Slice.Eq.{bytes_eq-Decides}
-use Rattle.session_table.specs.Slots.{Entry, IsPlaced, IsTable, are_one, held_at, is_at, is_for, is_other, place_for, places_of, renewed, value_at, with_value}
+use Rattle.session_table.specs.Slots.{Entry, IsPlaced, IsTable, are_one, held_at, is_at, is_for, is_other, place_for, renewed, value_at, with_value}
 
 -- ---- lists
 

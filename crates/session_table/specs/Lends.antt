@@ -1,5 +1,5 @@
 -- What is held, once a change of one value in its place has ended.
-use Rattle.std.specs.Prelude.{ℕ, List, Option, Some}
+use Rattle.std.specs.Prelude.{ℕ, List, Option}
 use Rattle.std.specs.Borrow.{Fml, RattleType, MutBor, Lends, LendsIf}
 use Rattle.session_table.specs.Slots.{Entry, renewed}
 use Rattle.session_table.specs.contracts.slots.Slots.{the_row}

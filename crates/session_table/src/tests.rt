@@ -13,9 +13,10 @@ fn hold(slots: &mut Slots<u32>, port: u8, host: u8, value: u32) -> Option<usize>
     if port == 0 || port > 60 {
         return None;
     }
-    match slots.find(port, mac(host)) {
+    let address = mac(host);
+    match slots.find(port, address) {
         Some(_) => None,
-        None => slots.insert(port, mac(host), value).ok(),
+        None => slots.insert(port, address, value).ok(),
     }
 }
 

@@ -1,5 +1,5 @@
 -- As many entries are on a port as places of it are held.
-use Rattle.std.proofs.Common.{◌≡◌, ◌∙◌, ◌*◌, sym, ap, arith}
+use Rattle.std.proofs.Common.{◌≡◌, ◌∙◌, ◌*◌, sym, ap}
 use Rattle.session_table.specs.Slots.{first_place}
 use Rattle.session_table.specs.Rows.{count_held, is_held}
 use Rattle.session_table.proofs.Counts.{most}

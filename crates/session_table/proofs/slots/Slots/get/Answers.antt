@@ -1,5 +1,5 @@
 -- The value of a place is the entry's.
-use Rattle.std.proofs.Common.{◌≡◌, ◌∙◌, sym, ap, None, get_or}
+use Rattle.std.proofs.Common.{◌∙◌, sym, ap, None, get_or}
 use Rattle.session_table.proofs.Kept.{value_is}
 use Rattle.session_table.proofs.slots.Slots.get.Goals as goal
 

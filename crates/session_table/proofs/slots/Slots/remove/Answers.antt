@@ -1,5 +1,5 @@
 -- The place is given up, and the order loses it.
-use Rattle.std.proofs.Common.{rules, ◌≡◌, ◌∙◌, ◌<◌, sym, ap, length, filter, not, true, false, None, arith}
+use Rattle.std.proofs.Common.{rules, ◌≡◌, ◌∙◌, ◌<◌, sym, length, filter, not, true, false, None, arith}
 use Rattle.std.specs.Prelude.{◌==◌, is_some}
 use Rattle.std.proofs.lemmas.List.{get_or_default}
 use Rattle.arrayvec.proofs.ArrayVecLemmas.{filter-from_retain}
