@@ -7,3 +7,4 @@ mod Server
 mod Clients
 mod Guests
 mod Traces
+mod Crowds
