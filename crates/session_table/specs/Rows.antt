@@ -1,11 +1,13 @@
--- How entries are kept: by place, and the places in their order. No public clause cites this module.
+-- How entries are kept: by place, and the places in their order. No public clause cites this
+-- module.
 use Rattle.std.specs.Prelude.{◌≡◌, ◌<◌, ◌≤◌, ◌+◌, ℕ, zero, suc, eqb, Bool, true, false, cond, List, length, slice_index_or, filter_map, Option, Some, None, is_some, is_none}
 use Rattle.std.specs.List.{IsDistinct, list_any}
 use Rattle.std.specs.Str.{bytes_eq}
 use Rattle.wire_core.specs.declared.address.Mac.{Mac}
 use Rattle.session_table.specs.Slots.{Entry, port_of}
 
--- a place of sixteen from one on at which a question is answered with yes; none only where no answer is yes
+-- a place of sixteen from one on at which a question is answered with yes; none only where no
+-- answer is yes
 abbrev pub FoundBy : (ℕ → Bool) → ℕ → Option ℕ → Type 0
 FoundBy asked first None = (k : ℕ) → k < 16 → asked (first + k) ≡ false
 FoundBy asked first (Some at) = (first ≤ at) × (at < first + 16) × (asked at ≡ true)
@@ -37,7 +39,8 @@ module _ {T : Type 0} where
   abbrev pub entry : ℕ → Option Mac → Option T → Option (Entry T)
   entry p None value = None
   entry p (Some mac) None = None
-  entry p (Some mac) (Some value) = Some (record { place = p; port = port_of p; address = mac.0; value = value })
+  entry p (Some mac) (Some value) =
+      Some (record { place = p; port = port_of p; address = mac.0; value = value })
 
   abbrev pub row : List (Option Mac) → List (Option T) → ℕ → Option (Entry T)
   row hosts values p = entry p (host_at hosts p) (slice_index_or values p None)
@@ -46,13 +49,16 @@ module _ {T : Type 0} where
   abbrev pub entries_of : List (Option Mac) → List (Option T) → List ℕ → List (Entry T)
   entries_of hosts values order = filter_map (row hosts values) order
 
-  -- there are 960 places, each with an address and a value or with neither; the order has each that is held once, and no other;
+  -- there are 960 places, each with an address and a value or with neither; the order has each that
+  -- is held once, and no other;
   -- and no host of a port is held twice
-  pub record AreKept (hosts : List (Option Mac)) (values : List (Option T)) (order : List ℕ) : Type 0 where
+  pub record AreKept (hosts : List (Option Mac)) (values : List (Option T)) (order : List ℕ) :
+      Type 0 where
     pub size : length hosts ≡ 960
     pub values_size : length values ≡ 960
     pub paired : (p : ℕ) → is_some (slice_index_or values p None) ≡ is_held hosts p
     pub listed : (p : ℕ) → list_any (eqb p) order ≡ is_held hosts p
     pub once : IsDistinct eqb order
-    pub apart : (p q : ℕ) (address : List ℕ) → holds_mac address hosts p ≡ true → holds_mac address hosts q ≡ true
+    pub apart : (p q : ℕ) (address : List ℕ) → holds_mac address hosts p ≡ true →
+        holds_mac address hosts q ≡ true
         → port_of p ≡ port_of q → p ≡ q

@@ -84,7 +84,8 @@ module _ {T : Type 0} where
   abbrev pub are_one : Entry T → Entry T → Bool
   are_one e f = is_for e.port e.address f
 
-  -- at most 960 entries, each at a place of its port, no two at one place, and no two for one host of one port
+  -- at most 960 entries, each at a place of its port, no two at one place, and no two for one host
+  -- of one port
   pub record IsTable (es : List (Entry T)) : Type 0 where
     pub few : length es ≤ 960
     pub placed : AllByRecursion IsPlaced es

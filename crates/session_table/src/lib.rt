@@ -1,5 +1,5 @@
-//! Places for sessions: sixteen hosts on each of sixty ports, in the order in which they came. No call but `open`
-//! takes memory.
+//! Places for sessions: sixteen hosts on each of sixty ports, in the order in which they came. No
+//! call but `open` takes memory.
 #![tactic(auto)]
 
 mod port;

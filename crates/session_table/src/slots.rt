@@ -22,8 +22,8 @@ const PLACES: usize = 960;
 #[derive(Clone, Copy, Debug, PartialEq, Eq)]
 pub struct PortFull;
 
-/// What is held for hosts, each at a place of its port, in the order in which they came: the list of entries, the
-/// oldest first. Places 0 to 15 are of port 1, 16 to 31 of port 2, up to 959.
+/// What is held for hosts, each at a place of its port, in the order in which they came: the list
+/// of entries, the oldest first. Places 0 to 15 are of port 1, 16 to 31 of port 2, up to 959.
 #[derive(Drop)]
 pub struct Slots<T> {
     /// The address that is held at each place.
@@ -63,8 +63,8 @@ impl<T: Drop> Slots<T> {
         })
     }
 
-    /// The place of an address on a port; none exactly where nothing is held for it there. Only the port's sixteen
-    /// places are looked at.
+    /// The place of an address on a port; none exactly where nothing is held for it there. Only the
+    /// port's sixteen places are looked at.
     pub fn find(&self, port: u8, mac: Mac) -> Option<usize>
         ensures place { result ≡ place_for port mac.0 self.now }
         ensures table { IsTable self.now }
@@ -88,13 +88,15 @@ impl<T: Drop> Slots<T> {
         count_in(hosts, HOSTS * usize::from(port - 1))
     }
 
-    /// Holds a value for an address on a port, 1 to 60, that has none there, and gives its place: it comes last in
-    /// the order. Where sixteen hosts are held on the port already, the value is dropped, and nothing else changes.
+    /// Holds a value for an address on a port, 1 to 60, that has none there, and gives its place: it
+    /// comes last in the order. Where sixteen hosts are held on the port already, the value is
+    /// dropped, and nothing else changes.
     pub fn insert(&mut self, port: u8, mac: Mac, value: T) -> Result<usize, PortFull>
         requires port { is_port port ≡ true }
         requires new { place_for port mac.0 self.old ≡ None }
         ensures taken { IfOk result (λ at. IsTakenFor port at self.old) }
-        ensures held { IfOk result (λ at. self.new ≡ self.old ++ record { place = at; port = port; address = mac.0; value = value } ∷ []) }
+        ensures held { IfOk result (λ at. self.new
+            ≡ self.old ++ record { place = at; port = port; address = mac.0; value = value } ∷ []) }
         ensures room { OnOk result (count_on port self.old < 16) }
         ensures full { OnErr result (count_on port self.old ≡ 16) }
         ensures same { OnErr result (self.new ≡ self.old) }
@@ -137,7 +139,8 @@ impl<T: Drop> Slots<T> {
         held_mut(&mut self.values[at])
     }
 
-    /// Takes out what is held at a place; none exactly where nothing is. The others keep their order.
+    /// Takes out what is held at a place; none exactly where nothing is. The others keep their
+    /// order.
     pub fn remove(&mut self, at: usize) -> Option<T>
         ensures value { result ≡ value_at at self.old }
         ensures others { self.new ≡ filter (is_other at) self.old }
@@ -160,7 +163,8 @@ impl<T: Drop> Slots<T> {
         self.order.len()
     }
 
-    /// The place of the n-th host in the order in which they came, from 0 on; none exactly where there are no more.
+    /// The place of the n-th host in the order in which they came, from 0 on; none exactly where
+    /// there are no more.
     pub fn place_at(&self, n: usize) -> Option<usize>
         ensures place { result ≡ slice_get (places_of self.now) n }
         ensures table { IsTable self.now }
@@ -181,7 +185,8 @@ impl<T: Drop> Slots<T> {
 }
 
 impl<T: Copy> Slots<T> {
-    /// From now on holds what another table does, at the same places and in the same order. It takes no memory.
+    /// From now on holds what another table does, at the same places and in the same order. It takes
+    /// no memory.
     pub fn copy_from(&mut self, other: &Slots<T>)
         ensures { self.new ≡ other.now }
     {

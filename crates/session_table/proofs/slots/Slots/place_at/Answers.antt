@@ -9,16 +9,34 @@ use Rattle.session_table.proofs.slots.Slots.place_at.Goals as goal
 
 pub returns-in-Some-clause-place : goal.returns-in-Some-clause-place
 returns-in-Some-clause-place g c =
-    let e : Some c.from.result ≡ slice_get c.self.inside.order.items c.args.n = grind (arith, common_steps, gets) in
-    rw (← c.self.view_is) (e ∙ ap (λ qs. slice_get qs c.args.n) (sym (places_are c.self.inside.hosts.items c.self.inside.values.items c.self.inside.order.items c.self.invariant)))
+    let e : Some c.from.result ≡ slice_get c.self.inside.order.items c.args.n =
+    grind (arith, common_steps, gets) in
+    rw (← c.self.view_is)
+    (e
+    ∙ ap (λ qs. slice_get qs c.args.n)
+    (sym
+    (places_are c.self.inside.hosts.items c.self.inside.values.items c.self.inside.order.items
+    c.self.invariant)))
 
 pub returns-in-Some-clause-table : goal.returns-in-Some-clause-table
-returns-in-Some-clause-table g c = rw (← c.self.view_is) (table c.self.inside.hosts.items c.self.inside.values.items c.self.inside.order.items c.self.invariant)
+returns-in-Some-clause-table g c =
+    rw (← c.self.view_is)
+    (table c.self.inside.hosts.items c.self.inside.values.items c.self.inside.order.items
+    c.self.invariant)
 
 pub returns-in-None-clause-place : goal.returns-in-None-clause-place
 returns-in-None-clause-place g c =
-    let e : None ≡ slice_get c.self.inside.order.items c.args.n = grind (arith, common_steps, gets) in
-    rw (← c.self.view_is) (e ∙ ap (λ qs. slice_get qs c.args.n) (sym (places_are c.self.inside.hosts.items c.self.inside.values.items c.self.inside.order.items c.self.invariant)))
+    let e : None ≡ slice_get c.self.inside.order.items c.args.n =
+    grind (arith, common_steps, gets) in
+    rw (← c.self.view_is)
+    (e
+    ∙ ap (λ qs. slice_get qs c.args.n)
+    (sym
+    (places_are c.self.inside.hosts.items c.self.inside.values.items c.self.inside.order.items
+    c.self.invariant)))
 
 pub returns-in-None-clause-table : goal.returns-in-None-clause-table
-returns-in-None-clause-table g c = rw (← c.self.view_is) (table c.self.inside.hosts.items c.self.inside.values.items c.self.inside.order.items c.self.invariant)
+returns-in-None-clause-table g c =
+    rw (← c.self.view_is)
+    (table c.self.inside.hosts.items c.self.inside.values.items c.self.inside.order.items
+    c.self.invariant)
