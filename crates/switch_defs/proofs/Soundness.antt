@@ -9,7 +9,8 @@ use Rattle.settle_defs.specs.Named.{needs_name, IsNamed}
 use Rattle.settle_defs.proofs.SettleLaws.{stays_named}
 use Rattle.aaa_defs.specs.Waits.{Pending, Waits, pending_of, placed}
 use Rattle.aaa_defs.proofs.Waiting.{forgotten-none, placed_length}
-use Rattle.switch_defs.specs.History.{Entry, runs, after}
+use Rattle.event_record.specs.Entry.{Entry}
+use Rattle.switch_defs.specs.History.{runs, after}
 use Rattle.switch_defs.specs.Laws.{OpeningIsSound, TurnsAreSound, HistoriesAreSound, SessionsAreFew, NumbersFit, AsksOnce, RestsAgain, SoundIsBetween, MayFrame, FramesMaySettle, MayAnswer, AnswersMaySettle, SecondsMaySettle}
 use Rattle.aaa_defs.specs.declared.Aged.{Aged}
 use Rattle.aaa_defs.specs.Age.{aged}

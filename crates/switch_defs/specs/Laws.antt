@@ -11,6 +11,7 @@ use Rattle.machine_vars.specs.declared.states.EapState.TheVariants.{AaaIdle}
 use Rattle.aaa_defs.specs.Answer.{Taking, answered}
 use Rattle.wire_core.specs.declared.address.Addr.{Addr}
 use Rattle.switch_event.specs.Event.{Happening}
+use Rattle.event_record.specs.Entry.{Entry}
 use Rattle.dynauth_defs.specs.declared.Action.{Action}
 use Rattle.dynauth_defs.specs.declared.Action.TheVariants.{Disconnect, Change}
 use Rattle.dynauth_defs.specs.Judge.{Ack}
@@ -20,7 +21,7 @@ use Rattle.switch_defs.specs.Switch.{Host, Standing, Session, State, hosts, port
 use Rattle.switch_defs.specs.Session.{Cause, place, forget, rested, forget_if, settle_session}
 use Rattle.switch_defs.specs.Answer.{Answered, Refused, Told, stands, answered_on}
 use Rattle.switch_defs.specs.Turn.{FrameCase, Dropped, Forces, Opens, Turns, frame_case, opened, fresh_standing, with_session, set_vars, age_request, is_given_up, second_of, turn}
-use Rattle.switch_defs.specs.History.{Entry, after}
+use Rattle.switch_defs.specs.History.{after}
 use Rattle.switch_defs.specs.Sound.{In, AreHosts, Rests, IsSound, MaySettle}
 
 -- the opening is sound

@@ -12,7 +12,8 @@ use Rattle.switch_defs.proofs.Lists.{both}
 use Rattle.switch_defs.proofs.Valid.{valid_ports}
 use Rattle.switch_defs.specs.Switch.{State, opening, opened_port, is_port, port_of, most_sessions}
 use Rattle.switch_defs.specs.Decide.{view_of}
-use Rattle.switch_defs.specs.History.{Entry, after}
+use Rattle.event_record.specs.Entry.{Entry}
+use Rattle.switch_defs.specs.History.{after}
 use Rattle.switch_defs.specs.Sound.{In, here, there, most_ports}
 use Rattle.switch_defs.specs.Turn.{turn}
 use Rattle.switch_defs.proofs.Numbers.{runs_append}

@@ -11,7 +11,8 @@ use Rattle.switch_event.specs.Event.{Happening}
 use Rattle.switch_event.specs.declared.decision.Decision.{Decision}
 use Rattle.switch_defs.specs.Switch.{Host, State, is_vlan, port_of, opening, same_key, is_at, most_hosts}
 use Rattle.switch_defs.specs.Decide.{Right, PortView, view, view_of, authorised, decide, decide_by}
-use Rattle.switch_defs.specs.History.{Entry, after}
+use Rattle.event_record.specs.Entry.{Entry}
+use Rattle.switch_defs.specs.History.{after}
 use Rattle.switch_defs.specs.Sound.{In, AreFew, IsSound, confs}
 use Rattle.switch_defs.specs.Turn.{turn}
 
