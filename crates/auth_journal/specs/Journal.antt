@@ -18,5 +18,6 @@ entry_shown shown = record { lane = shown.0; event = happening shown.1 }
 
 -- a full list stays as it is, with what is staged; where there is no memory, nothing is staged
 abbrev pub Refuses : Journal → Journal → JournalErr → Type 0
-Refuses old new (Full events) = (events ≡ length old.list) × (length old.list ≡ MOST_EVENTS) × (new ≡ old)
+Refuses old new (Full events) =
+    (events ≡ length old.list) × (length old.list ≡ MOST_EVENTS) × (new ≡ old)
 Refuses old new NoMemory = (length old.list ≢ MOST_EVENTS) × (new.staged ≡ None)

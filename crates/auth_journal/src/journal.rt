@@ -38,7 +38,9 @@ impl Model for Journal {
 
     ghost view = { λ j. record { list = j.entries.items; staged = j.staged } };
 
-    ghost invariant = { λ j. (length j.entries.items ≤ MOST_EVENTS) × (IsSome j.staged → (length j.entries.items < MOST_EVENTS) × (length j.entries.items < vec_capacity j.entries)) };
+    ghost invariant = { λ j. (length j.entries.items ≤ MOST_EVENTS)
+      × (IsSome j.staged → (length j.entries.items < MOST_EVENTS)
+      × (length j.entries.items < vec_capacity j.entries)) };
 }
 
 impl Journal {
@@ -53,8 +55,9 @@ impl Journal {
         })
     }
 
-    /// Stages an event, with a copy of its octets, in place of the one that was staged. The list stays. The journal is full
-    /// exactly where it has `MOST_EVENTS` events; it then is as before. Where there is no memory, nothing is staged.
+    /// Stages an event, with a copy of its octets, in place of the one that was staged. The list
+    /// stays. The journal is full exactly where it has `MOST_EVENTS` events; it then is as before.
+    /// Where there is no memory, nothing is staged.
     pub fn stage(&mut self, lane: u8, event: &Event<'_>) -> Result<(), JournalErr>
         ensures list { self.new.list ≡ self.old.list }
         ensures staged { OnOk result (self.new.staged ≡ Some (entry_of lane event.now)) }

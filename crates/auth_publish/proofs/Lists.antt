@@ -8,7 +8,7 @@ use Rattle.table_defs.specs.Table.{Table}
 use Rattle.table_defs.specs.Table.{Change}
 use Rattle.table_defs.specs.Table.{Items, Finish, changed, changed_by}
 use Rattle.event_record.specs.declared.TheConstants.{MOST_EVENTS}
-use Rattle.auth_publish.specs.Changes.{weight, front_of, is_open, finish_is_last}
+use Rattle.auth_publish.specs.Changes.{is_finish, weight, front_of, is_open, finish_is_last}
 
 pub prefix_self : {A : Type 0} (xs : List A) → IsPrefix xs xs
 prefix_self [] = ([], refl)
@@ -57,6 +57,13 @@ open_length (Finish ∷ cs) h = absurd cc
 -- so the number of changes has room for one more
 pub room_for_more : (cs : List Change) (n : ℕ) → n ≡ length cs → is_open cs ≡ true → front_of cs ≤ MOST_EVENTS → Fits w64 (n + 1)
 room_for_more cs n is h room = let r = open_length cs h in omega arith
+
+-- a list without Finish stays so by a change that is none
+pub open_more : (cs : List Change) (c : Change) → is_open cs ≡ true → is_finish c ≡ false → is_open (cs ++ c ∷ []) ≡ true
+open_more [] (Items is) h going = refl
+open_more [] Finish h going = absurd cc
+open_more (Items is ∷ cs) c h going = open_more cs c h going
+open_more (Finish ∷ cs) c h going = absurd cc
 
 pub last_more : (cs : List Change) (c : Change) → is_open cs ≡ true → finish_is_last (cs ++ c ∷ []) ≡ true
 last_more [] (Items is) h = refl

@@ -17,4 +17,5 @@ grown p c = record { name = p.told.name; list = p.told.list ++ c ∷ [] }
 
 -- one change comes next, and no Finish stands before it
 abbrev pub IsNext : Published → List Deed → Type 0
-IsNext p deeds = (is_open p.told.list ≡ true) × ((c : Change) × (deeds ≡ Publish c (grown p c) ∷ []))
+IsNext p deeds =
+    (is_open p.told.list ≡ true) × ((c : Change) × (deeds ≡ Publish c (grown p c) ∷ []))

@@ -4,7 +4,8 @@ use Rattle.logbook.specs.Pages.{Cell, Step, View, Book, Named}
 use Rattle.table_defs.specs.Table.{Change}
 use Rattle.auth_publish.specs.Changes.{finish_is_last}
 
--- the first word is the length of the history. A book has two words, of which this one leaves the second at 0
+-- the first word is the length of the history. A book has two words, of which this one leaves the
+-- second at 0
 pub record IsKept (cells : List Cell) (log : List Change) : Type 0 where
   pub words : cells ≡ (length log, true) ∷ (0, true) ∷ []
   pub last : finish_is_last log ≡ true

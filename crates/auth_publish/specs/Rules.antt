@@ -16,17 +16,20 @@ use Rattle.auth_publish.specs.declared.rule.Opening.{Opening}
 abbrev pub opening : Table → Book → Opening
 opening first name = record { first = first; told = record { name = name; list = [] } }
 
--- the published table is the one after the published list; who knows how the publisher began knows it right
+-- the published table is the one after the published list; who knows how the publisher began knows
+-- it right
 pub record Stands (x : Published) (views : List (Option Opening)) : Type 0 where
   pub first : Table
   pub table_is : x.table ≡ changed_by first x.told.list
   pub last : finish_is_last x.told.list ≡ true
-  pub seats : (seat : ℕ) (v : Option Opening) → get_elem? views seat ≡ some v → (v ≡ None) ⊎ (v ≡ Some (opening first x.told.name))
+  pub seats : (seat : ℕ) (v : Option Opening) → get_elem? views seat ≡ some v
+      → (v ≡ None) ⊎ (v ≡ Some (opening first x.told.name))
 
 -- the table that is entered is the one after the list that is entered
 pub record Sees (v : Option Opening) (y : Published) (w : Option Opening) : Type 0 where
   pub same : w ≡ v
-  pub placed : (first : Table) (name : Book) → v ≡ Some (opening first name) → (y.table ≡ changed_by first y.told.list) × (y.told.name ≡ name)
+  pub placed : (first : Table) (name : Book) → v ≡ Some (opening first name)
+      → (y.table ≡ changed_by first y.told.list) × (y.told.name ≡ name)
   pub last : finish_is_last y.told.list ≡ true
 
 -- the table before all changes; any table for a seat that does not know it
@@ -34,13 +37,17 @@ abbrev pub first_or : Option Opening → Table
 first_or None = record { rows = [] }
 first_or (Some o) = o.first
 
-abbrev pub known_by : Seat (Option (Part Published)) (Doing Published (Option Opening)) → Option Opening
+-- a seat of the toolchain's table, at the published value
+abbrev pub Place : Type 0
+Place = Seat (Option (Part Published)) (Doing Published (Option Opening))
+
+abbrev pub known_by : Place → Option Opening
 known_by s = view s
 
 -- the table before all changes, as the seat knows it
-abbrev pub first_of : Seat (Option (Part Published)) (Doing Published (Option Opening)) → Table
+abbrev pub first_of : Place → Table
 first_of s = first_or (known_by s)
 
 -- the seat knows how the publisher of this name began
-abbrev pub IsPlaced : Book → Seat (Option (Part Published)) (Doing Published (Option Opening)) → Type 0
+abbrev pub IsPlaced : Book → Place → Type 0
 IsPlaced name s = known_by s ≡ Some (opening (first_of s) name)

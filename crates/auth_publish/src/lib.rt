@@ -1,4 +1,5 @@
-//! The table that decides on frames, as one publisher shows it, change by change. Viewers read it without a lock.
+//! The table that decides on frames, as one publisher shows it, change by change. Viewers read it
+//! without a lock.
 #![tactic(auto)]
 
 mod change;

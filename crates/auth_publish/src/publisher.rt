@@ -20,7 +20,8 @@ use std::sync::Wait;
 
 type TableWriter = Writer<Published, Deed, Option<Opening>, Law>;
 
-/// One that changes the table and shows each change. Contracts see the changes that are published. It is not Drop: end it by `end`.
+/// One that changes the table and shows each change. Contracts see the changes that are published.
+/// It is not Drop: end it by `end`.
 pub struct Publisher {
     writer: TableWriter,
     head: Head,
@@ -38,13 +39,22 @@ impl Model for Publisher {
 
     ghost Value = { Feed };
 
-    ghost view = { λ p. record { name = p.writer.desk.shown.value.told.name; first = first_of p.writer.desk.place; list = p.writer.desk.shown.value.told.list } };
+    ghost view = { λ p. record {
+      name = p.writer.desk.shown.value.told.name;
+      first = first_of p.writer.desk.place;
+      list = p.writer.desk.shown.value.told.list;
+    } };
 
-    ghost invariant = { λ p. (drop p.writer.behind p.writer.log.items ≡ []) × IsPlaced p.writer.desk.shown.value.told.name p.writer.desk.place × (p.head ≡ head_of p.writer.desk.shown.value.told.name) × (p.writer.desk.shown.value.table ≡ changed_by (first_of p.writer.desk.place) p.writer.desk.shown.value.told.list) × (front_of p.writer.desk.shown.value.told.list ≤ MOST_EVENTS) };
+    ghost invariant = { λ p. (drop p.writer.behind p.writer.log.items ≡ [])
+      × IsPlaced p.writer.desk.shown.value.told.name p.writer.desk.place
+      × (p.head ≡ head_of p.writer.desk.shown.value.told.name)
+      × (p.writer.desk.shown.value.table
+      ≡ changed_by (first_of p.writer.desk.place) p.writer.desk.shown.value.told.list)
+      × (front_of p.writer.desk.shown.value.told.list ≤ MOST_EVENTS) };
 }
 
-/// A publisher of this table with an empty list, and so many viewers of it, 1 to 8. It waits for nobody but where it is refused: then it ends
-/// what it had made, and nobody is inside.
+/// A publisher of this table with an empty list, and so many viewers of it, 1 to 8. It waits for
+/// nobody but where it is refused: then it ends what it had made, and nobody is inside.
 pub fn open<R: Wait>(
     rt: &R,
     alloc: Global,
@@ -72,7 +82,8 @@ fn settle<R: Wait>(mut writer: TableWriter, rt: &R) -> Result<TableWriter, Alloc
     requires pending { drop writer.behind writer.log.items ≡ [] }
     ensures pending { IfOk result (λ w. drop w.behind w.log.items ≡ []) }
     ensures shown { IfOk result (λ w. w.desk.shown.value ≡ writer.desk.shown.value) }
-    ensures placed { IfOk result (λ w. (first_of w.desk.place ≡ writer.desk.shown.value.table) × IsPlaced writer.desk.shown.value.told.name w.desk.place) }
+    ensures placed { IfOk result (λ w. (first_of w.desk.place ≡ writer.desk.shown.value.table)
+        × IsPlaced writer.desk.shown.value.told.name w.desk.place) }
 {
     if writer.append(Deed::Begin).is_err() {
         drop(writer.take(rt));
@@ -93,7 +104,8 @@ fn show<R: Wait>(writer: TableWriter, rt: &R) -> (TableWriter, Result<(), AllocE
     requires { IsNext writer.desk.shown.value (drop writer.behind writer.log.items) }
     ensures ok { IsOk result.1 }
     ensures pending { drop result.0.behind result.0.log.items ≡ [] }
-    ensures shown { result.0.desk.shown.value ≡ fold done writer.desk.shown.value (drop writer.behind writer.log.items) }
+    ensures shown { result.0.desk.shown.value
+        ≡ fold done writer.desk.shown.value (drop writer.behind writer.log.items) }
     ensures known { known_by result.0.desk.place ≡ known_by writer.desk.place }
 {
     writer.publish_as::<Posts, R>(rt)
@@ -147,14 +159,16 @@ impl Publisher {
         Ok(Viewer { reader, told })
     }
 
-    /// Publishes a change that is not Finish, and gives a receipt of the list that ends with it. It may wait for viewers that are inside. Where there is
-    /// no memory the list is as before.
+    #[tactic(auto, using(crate::proofs::Lists::open_more))]
+    /// Publishes a change that is not Finish, and gives a receipt of the list that ends with it. It
+    /// may wait for viewers that are inside. Where there is no memory the list is as before.
     pub fn post<R: Wait>(&mut self, rt: &R, c: Change) -> Result<Receipt, AllocError>
         requires open { is_open self.old.list ≡ true }
         requires change { is_finish (change_of c) ≡ false }
         requires room { length self.old.list < MOST_EVENTS }
         ensures same { (self.new.name ≡ self.old.name) × (self.new.first ≡ self.old.first) }
         ensures published { IfOk result (λ r. self.new.list ≡ self.old.list ++ change_of c ∷ []) }
+        ensures open { IfOk result (λ r. is_open self.new.list ≡ true) }
         ensures receipt { IfOk result (λ r. (r.name ≡ self.new.name) × (r.list ≡ self.new.list)) }
         ensures refused { OnErr result (self.new ≡ self.old) }
     {
@@ -162,8 +176,8 @@ impl Publisher {
         self.publish(rt, change)
     }
 
-    /// Publishes Finish, and gives a receipt of the list that ends with it. It may wait for viewers that are inside. Where there is no memory the
-    /// list is as before.
+    /// Publishes Finish, and gives a receipt of the list that ends with it. It may wait for viewers
+    /// that are inside. Where there is no memory the list is as before.
     pub fn finish<R: Wait>(&mut self, rt: &R) -> Result<Receipt, AllocError>
         requires { is_open self.old.list ≡ true }
         ensures same { (self.new.name ≡ self.old.name) × (self.new.first ≡ self.old.first) }
@@ -175,8 +189,9 @@ impl Publisher {
     }
 
     #[tactic(auto, using(crate::proofs::Lists::changed_more))]
-    // All memory is there before the history is told: that of the change, and that of its place since `new`. Were there none for
-    // the place all the same, the history would have a change that readers never see, and no change could come after it.
+    // All memory is there before the history is told: that of the change, and that of its place
+    // since `new`. Were there none for the place all the same, the history would have a change that
+    // readers never see, and no change could come after it.
     fn publish<R: Wait>(&mut self, rt: &R, change: Posted) -> Result<Receipt, AllocError>
         requires open { is_open self.old.list ≡ true }
         requires room { front_of (self.old.list ++ change ∷ []) ≤ MOST_EVENTS }
@@ -199,7 +214,8 @@ impl Publisher {
                 requires { IsNext writer.desk.shown.value (drop writer.behind writer.log.items) }
                 ensures ok { IsOk result.1 }
                 ensures pending { drop result.0.behind result.0.log.items ≡ [] }
-                ensures shown { result.0.desk.shown.value ≡ fold done writer.desk.shown.value (drop writer.behind writer.log.items) }
+                ensures shown { result.0.desk.shown.value
+                    ≡ fold done writer.desk.shown.value (drop writer.behind writer.log.items) }
                 ensures known { known_by result.0.desk.place ≡ known_by writer.desk.place }
             { show(writer, rt) },
         )?;

@@ -1,4 +1,5 @@
-//! The history of the published changes, of which the code keeps only how long it is, and receipts of it.
+//! The history of the published changes, of which the code keeps only how long it is, and receipts
+//! of it.
 ghost use Rattle.std.specs.Prelude.{◌≡◌, ◌<◌, ◌≤◌, ◌⊎◌, [], ◌∷◌, ◌++◌, true, length, MatchBool, IfSome};
 ghost use mathlib.Core.List.{IsPrefix};
 ghost use Rattle.auth_publish.specs.Changes.{is_open, front_of, weight};
@@ -135,10 +136,12 @@ impl Receipt {
         }
     }
 
-    // Whether the other list begins with this one. Of two lists of one history one begins with the other.
+    // Whether the other list begins with this one. Of two lists of one history one begins with the
+    // other.
     pub(crate) fn begins(&self, other: &Receipt) -> bool
         requires { other.now.name ≡ self.now.name }
-        ensures { MatchBool result (IsPrefix self.now.list other.now.list) (IsPrefix other.now.list self.now.list) }
+        ensures { MatchBool result (IsPrefix self.now.list other.now.list)
+            (IsPrefix other.now.list self.now.list) }
     {
         let mut both = self.seen.again();
         both.learn(&other.seen);
@@ -155,12 +158,14 @@ impl Receipt {
         if self.begins(&other) { other } else { self }
     }
 
-    // A receipt of this list and one more change. The history has the change from then on, so this comes once for a list.
+    // A receipt of this list and one more change. The history has the change from then on, so this
+    // comes once for a list.
     pub(crate) fn add(&self, head: &Head, change: &Posted) -> Option<Receipt>
         requires head { head.now ≡ head_of self.now.name }
         requires open { is_open self.now.list ≡ true }
         requires room { front_of self.now.list ≤ MOST_EVENTS }
-        ensures { IfSome result (λ r. r ≡ record { name = self.now.name; list = self.now.list ++ change.now ∷ [] }) }
+        ensures { IfSome result (λ r.
+            r ≡ record { name = self.now.name; list = self.now.list ++ change.now ∷ [] }) }
     {
         let mut seen = self.seen.again();
         let mut offer: Offer<Posted, u64, History, Nothing> = seen.plain::<Nothing, Posted, Add>(

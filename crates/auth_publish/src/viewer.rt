@@ -10,7 +10,8 @@ use auth_table::Table;
 use left_right::reader::{Reader, Reading};
 use std::marker::Model;
 
-/// One that reads the published table. Contracts see the longest of the lists that it entered or learnt.
+/// One that reads the published table. Contracts see the longest of the lists that it entered or
+/// learnt.
 #[derive(Drop)]
 pub struct Viewer {
     pub(crate) reader: Reader<Published, Option<Opening>, Law>,
@@ -23,12 +24,17 @@ impl Model for Viewer {
 
     ghost Value = { Feed };
 
-    ghost view = { λ v. record { name = v.told.name; first = first_of v.reader.place; list = v.told.list } };
+    ghost view = { λ v. record {
+      name = v.told.name;
+      first = first_of v.reader.place;
+      list = v.told.list;
+    } };
 
     ghost invariant = { λ v. IsPlaced v.told.name v.reader.place };
 }
 
-/// The table as it was entered. Contracts see the list that it is after. It is not Drop: end it by `leave`.
+/// The table as it was entered. Contracts see the list that it is after. It is not Drop: end it by
+/// `leave`.
 pub struct View {
     reading: Reading<Published, Option<Opening>, Law>,
 }
@@ -42,15 +48,23 @@ impl Model for View {
 
     ghost Value = { Feed };
 
-    ghost view = { λ v. record { name = v.reading.part.value.told.name; first = first_of v.reading.place; list = v.reading.part.value.told.list } };
+    ghost view = { λ v. record {
+      name = v.reading.part.value.told.name;
+      first = first_of v.reading.place;
+      list = v.reading.part.value.told.list;
+    } };
 
-    ghost invariant = { λ v. IsPlaced v.reading.part.value.told.name v.reading.place × (v.reading.part.value.table ≡ changed_by (first_of v.reading.place) v.reading.part.value.told.list) × (finish_is_last v.reading.part.value.told.list ≡ true) };
+    ghost invariant = { λ v. IsPlaced v.reading.part.value.told.name v.reading.place
+      × (v.reading.part.value.table
+      ≡ changed_by (first_of v.reading.place) v.reading.part.value.told.list)
+      × (finish_is_last v.reading.part.value.told.list ≡ true) };
 }
 
 impl Viewer {
-    /// Enters the table as it is published now. The list that is entered begins with each list that this viewer entered before or
-    /// learnt, and Finish stands only last in it. Where the entry is refused the viewer comes back, with all that it had seen; this counts as
-    /// want of memory. It takes no lock.
+    /// Enters the table as it is published now. The list that is entered begins with each list that
+    /// this viewer entered before or learnt, and Finish stands only last in it. Where the entry is
+    /// refused the viewer comes back, with all that it had seen; this counts as want of memory. It
+    /// takes no lock.
     pub fn enter(self) -> Result<View, Viewer>
         ensures same { IfOk result (λ v. (v.name ≡ self.name) × (v.first ≡ self.first)) }
         ensures begins { IfOk result (λ v. IsPrefix self.list v.list) }
@@ -74,7 +88,8 @@ impl Viewer {
         }
     }
 
-    /// What it enters from now on begins with the receipt's list too. Of the two lists one begins the other, and the longer is kept.
+    /// What it enters from now on begins with the receipt's list too. Of the two lists one begins
+    /// the other, and the longer is kept.
     pub fn learn(self, r: Receipt) -> Viewer
         requires { r.name ≡ self.name }
         ensures same { (result.name ≡ self.name) × (result.first ≡ self.first) }

@@ -87,7 +87,6 @@ fn one_viewer<R: Wait>(rt: &R, alloc: Global) -> Result<(Publisher, Viewer), All
 }
 
 #[test]
-#[tactic(auto, using(crate::proofs::Opening::open_more))]
 fn a_worker_that_was_told_forwards_into_the_vlan(rt: HostRuntime) -> Result<(), Fail> {
     let (mut publisher, viewer) = one_viewer(&rt, rt.alloc())?;
     let mut worker = Worker::new(viewer);
@@ -136,7 +135,6 @@ fn a_worker_that_was_told_forwards_into_the_vlan(rt: HostRuntime) -> Result<(), 
     Ok(())
 }
 
-#[tactic(auto, using(crate::proofs::Opening::open_more))]
 // Posts a change; where memory is refused, the same change once more.
 fn post_again<R: Wait>(rt: &R, publisher: &mut Publisher) -> Result<u64, AllocError>
     requires open { is_open publisher.old.list ≡ true }
@@ -162,7 +160,8 @@ fn post_all<R: Wait>(rt: &R, publisher: &mut Publisher, changes: u64) -> Result<
     Ok(())
 }
 
-// Run with each allocation failing in turn, it shows that a refusal leaves the list as it was, and that the next change goes.
+// Run with each allocation failing in turn, it shows that a refusal leaves the list as it was, and
+// that the next change goes.
 #[test]
 fn a_change_goes_after_one_that_was_refused(rt: HostRuntime) {
     let opened = match publisher_of(&rt, rt.alloc(), 2) {
@@ -176,7 +175,8 @@ fn a_change_goes_after_one_that_was_refused(rt: HostRuntime) {
     publisher.end(&rt);
 }
 
-// A worker that forwards while changes are published, and whether each entry went and no front fell.
+// A worker that forwards while changes are published, and whether each entry went and no front
+// fell.
 #[derive(Drop)]
 struct Watch {
     worker: Worker,

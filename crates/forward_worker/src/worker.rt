@@ -15,7 +15,8 @@ use std::alloc::AllocError;
 use std::marker::Model;
 use switch_event::Decided;
 
-/// One that decides on data frames. Contracts see the longest of the lists of changes that it entered or learnt.
+/// One that decides on data frames. Contracts see the longest of the lists of changes that it
+/// entered or learnt.
 #[derive(Drop)]
 pub struct Worker {
     viewer: Viewer,
@@ -42,7 +43,9 @@ fn look(viewer: Viewer, data: Data<'_>) -> (Viewer, Result<Decided, AllocError>)
     ensures begins { IfOk result.1 (λ d. IsPrefix viewer.list result.0.list) }
     ensures last { IfOk result.1 (λ d. finish_is_last result.0.list ≡ true) }
     ensures front { IfOk result.1 (λ d. d.front ≡ front_of result.0.list) }
-    ensures decided { IfOk result.1 (λ d. d.decision ≡ decide_table (changed_by result.0.first result.0.list) data.entry.port data.entry.frame.now) }
+    ensures decided { IfOk result.1 (λ d. d.decision
+        ≡ decide_table (changed_by result.0.first result.0.list)
+        data.entry.port data.entry.frame.now) }
     ensures vlan { IfOk result.1 (λ d. ForwardsTagged d.decision) }
     ensures refused { OnErr result.1 (result.0 ≡ viewer) }
 {
@@ -66,10 +69,12 @@ impl Worker {
         Worker { viewer: v }
     }
 
-    /// Decides on a frame that came in on a port, by the table as it is published now, which is entered once; the list of that entry
-    /// begins with each list that this worker entered before or learnt. The front is the number of control events that the list
-    /// tells of. Where the frame is forwarded, `out` is replaced by the tagged frame, and else it is emptied. Where the entry is refused,
-    /// which counts as want of memory, what was seen and learnt stands, and `out` is emptied. It takes no lock.
+    /// Decides on a frame that came in on a port, by the table as it is published now, which is
+    /// entered once; the list of that entry begins with each list that this worker entered before
+    /// or learnt. The front is the number of control events that the list tells of. Where the frame
+    /// is forwarded, `out` is replaced by the tagged frame, and else it is emptied. Where the entry
+    /// is refused, which counts as want of memory, what was seen and learnt stands, and `out` is
+    /// emptied. It takes no lock.
     pub fn forward(
         &mut self,
         port: u8,
@@ -80,7 +85,8 @@ impl Worker {
         ensures begins { IfOk result (λ d. IsPrefix self.old.list self.new.list) }
         ensures last { IfOk result (λ d. finish_is_last self.new.list ≡ true) }
         ensures front { IfOk result (λ d. d.front ≡ front_of self.new.list) }
-        ensures decided { IfOk result (λ d. d.decision ≡ decide_table (changed_by self.new.first self.new.list) port frame.now) }
+        ensures decided { IfOk result (λ d. d.decision
+            ≡ decide_table (changed_by self.new.first self.new.list) port frame.now) }
         ensures out { IfOk result (λ d. out.new.items ≡ leaving d.decision frame.now) }
         ensures refused { OnErr result ((self.new ≡ self.old) × (out.new.items ≡ [])) }
     {
@@ -95,7 +101,9 @@ impl Worker {
         ensures begins { IfOk result (λ d. IsPrefix self.old.list self.new.list) }
         ensures last { IfOk result (λ d. finish_is_last self.new.list ≡ true) }
         ensures front { IfOk result (λ d. d.front ≡ front_of self.new.list) }
-        ensures decided { IfOk result (λ d. d.decision ≡ decide_table (changed_by self.new.first self.new.list) data.entry.port data.entry.frame.now) }
+        ensures decided { IfOk result (λ d. d.decision
+            ≡ decide_table (changed_by self.new.first self.new.list)
+            data.entry.port data.entry.frame.now) }
         ensures vlan { IfOk result (λ d. ForwardsTagged d.decision) }
         ensures refused { OnErr result (self.new ≡ self.old) }
     {
@@ -107,14 +115,17 @@ impl Worker {
                 ensures begins { IfOk result.1 (λ d. IsPrefix viewer.list result.0.list) }
                 ensures last { IfOk result.1 (λ d. finish_is_last result.0.list ≡ true) }
                 ensures front { IfOk result.1 (λ d. d.front ≡ front_of result.0.list) }
-                ensures decided { IfOk result.1 (λ d. d.decision ≡ decide_table (changed_by result.0.first result.0.list) data.entry.port data.entry.frame.now) }
+                ensures decided { IfOk result.1 (λ d. d.decision
+                    ≡ decide_table (changed_by result.0.first result.0.list)
+                    data.entry.port data.entry.frame.now) }
                 ensures vlan { IfOk result.1 (λ d. ForwardsTagged d.decision) }
                 ensures refused { OnErr result.1 (result.0 ≡ viewer) }
             { look(viewer, data) },
         )
     }
 
-    /// What it enters from now on begins with the receipt's list too, which is of the same publisher.
+    /// What it enters from now on begins with the receipt's list too, which is of the same
+    /// publisher.
     pub fn learn(&mut self, r: Receipt)
         requires { r.name ≡ self.old.name }
         ensures same { (self.new.name ≡ self.old.name) × (self.new.first ≡ self.old.first) }
@@ -135,8 +146,9 @@ impl Worker {
         );
     }
 
-    /// Learns a receipt of the finished list, and enters once more: it then has exactly that list, with which each list that it
-    /// entered before begins. The answer is the front, as of `forward`.
+    /// Learns a receipt of the finished list, and enters once more: it then has exactly that list,
+    /// with which each list that it entered before begins. The answer is the front, as of
+    /// `forward`.
     pub fn close(&mut self, r: Receipt) -> Result<u64, AllocError>
         requires own { r.name ≡ self.old.name }
         requires finished { (cs : List Change) × (r.list ≡ cs ++ Finish ∷ []) }
