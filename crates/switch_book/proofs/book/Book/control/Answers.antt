@@ -1,0 +1,74 @@
+use Rattle.std.proofs.Common.{rules, ◌≡◌, [], ◌∷◌, ◌++◌, length, sym, ap, subst, ◌∙◌, arith}
+use Rattle.event_record.specs.Entry.{entry_of}
+use Rattle.switch_event.specs.Config.{Config}
+use Rattle.switch_event.specs.Event.{happening}
+use Rattle.switch_defs.specs.History.{after}
+use Rattle.switch_defs.proofs.Settings.{config_turn}
+use Rattle.auth_table.specs.Meaning.{change_of}
+use Rattle.auth_publish.specs.Changes.{front_of}
+use Rattle.authenticator.specs.Meaning.{IsEvent}
+use Rattle.switch_book.proofs.Telling.{config_after, kept_open, kept_front, kept_accepted, kept_back}
+use Rattle.switch_book.proofs.book.Book.control.Goals as goal
+
+pub turn-outcome-requires-clause-event : goal.turn-outcome-requires-clause-event
+turn-outcome-requires-clause-event g c =
+    let b = c.self.inside in
+    let kept = c.self.invariant in
+    let same : (after b.config b.journal.list).config ≡ c.args.self.now.config = config_after b.config b.journal.list ∙ ap (λ v. v.config) c.self.view_is in
+    (after b.config b.journal.list, kept.first_stands, subst (λ (k : Config). IsEvent k (happening c.args.e.now)) (sym same) c.requires.event)
+
+pub turn-requires-clause-event : goal.turn-requires-clause-event
+turn-requires-clause-event g c =
+    let b = c.self.inside in
+    let kept = c.self.invariant in
+    let same : (after b.config b.journal.list).config ≡ c.args.self.now.config = config_after b.config b.journal.list ∙ ap (λ v. v.config) c.self.view_is in
+    (after b.config b.journal.list, kept.second_stands, subst (λ (k : Config). IsEvent k (happening c.args.e.now)) (sym same) c.requires.event)
+
+pub post-requires-clause-open : goal.post-requires-clause-open
+post-requires-clause-open g c =
+    kept_open g.A.Authenticator.stands g.A.Authenticator.made _ _ _ _ c.self.invariant c.if-self.false
+
+pub copy_from-requires : goal.copy_from-requires
+copy_from-requires g c =
+    let b = c.self.inside in
+    let kept = c.self.invariant in
+    let s = after b.config b.journal.list in
+    (_, s, c.turn-outcome.ensures.state s kept.first_stands, kept.second_stands, config_turn s (happening c.args.e.now))
+
+pub invariant_of-self-in_default : goal.invariant_of-self-in_default
+invariant_of-self-in_default g c =
+    let b = c.self.inside in
+    let kept = c.self.invariant in
+    let same : c.post.new.self ≡ b.publisher = search rules in
+    kept_back g.A.Authenticator.stands g.A.Authenticator.made _ _ _ _ kept c.post.new.self.name c.stage.new.self.list c.post.new.self.list c.post.new.self.first c.copy_from.new.self
+    c.stage.ensures.list (ap (λ p. p.list) same) (ap (λ p. p.first) same) (c.copy_from.ensures.stands _ kept.second_stands) c.copy_from.ensures.made
+
+pub invariant_of-self-2 : goal.invariant_of-self-2
+invariant_of-self-2 g c =
+    let b = c.self.inside in
+    let kept = c.self.invariant in
+    let s = after b.config b.journal.list in
+    let e = entry_of c.args.lane c.args.e.now in
+    let more : c.commit-serial.new.self.list ≡ b.journal.list ++ e ∷ [] = search rules in
+    kept_accepted g.A.Authenticator.stands g.A.Authenticator.made _ _ _ _ kept c.if-self.false c.post.new.self.name e c.turn-outcome.result.1 c.commit-serial.new.self.list c.post.new.self.list c.post.new.self.first
+    c.turn-outcome.new.self c.turn.new.self c.in-Ok.ensures.room more c.in-Ok-post.ensures.published c.post.ensures.same.1 c.turn-outcome.ensures.going (c.turn-outcome.ensures.change s kept.first_stands)
+    (c.turn-outcome.ensures.state s kept.first_stands) (c.turn.ensures.state s kept.second_stands) c.turn-outcome.ensures.made c.turn.ensures.made
+
+pub returns-clause-published : goal.returns-clause-published
+returns-clause-published g c = (change_of c.turn-outcome.result.1, c.in-Ok-post.ensures.published ∙ ap (λ v. v.published ++ change_of c.turn-outcome.result.1 ∷ []) c.self.view_is)
+
+pub returns-clause-told : goal.returns-clause-told
+returns-clause-told g c = (invariant_of-self-2 g c).told
+
+pub returns-clause-receipt : goal.returns-clause-receipt
+returns-clause-receipt g c =
+    let now = invariant_of-self-2 g c in
+    let front = kept_front g.A.Authenticator.stands g.A.Authenticator.made _ _ _ _ now c.if-self.false in
+    let made = now.first_made in
+    let old = c.self.invariant.first_made in
+    let more = c.turn-outcome.ensures.made in
+    let number = c.commit-serial.ensures.number in
+    let list : c.stage.new.self.list ≡ c.self.inside.journal.list = c.stage.ensures.list in
+    let many = ap length list in
+    let same = ap front_of c.in-Ok-post.ensures.receipt.1 in
+    (c.in-Ok-post.ensures.receipt.0, c.in-Ok-post.ensures.receipt.1, omega (arith, front, made, old, more, number, same, many))
