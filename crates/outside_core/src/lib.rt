@@ -2,10 +2,12 @@
 #![tactic(auto)]
 
 mod ahead;
+mod gate;
 mod host;
 mod memory;
 mod outside;
 
+pub use gate::{Gate, NoGate, Point, Who};
 pub use host::{StdSink, StdSource};
 pub use memory::{MemSink, MemSource};
 pub use outside::{Failed, Sink, Source};

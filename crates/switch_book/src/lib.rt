@@ -1,6 +1,13 @@
-//! The book of the authenticator: what was accepted, what workers read, and the state, which go together.
+//! The book of the authenticator: what was accepted, what workers read, and the state, which go together; and
+//! the book under a lock.
 #![tactic(auto)]
 
 pub mod book;
+pub mod gated;
+pub mod switch;
 
+pub use auth_journal::JournalErr;
 pub use book::{Answer, Book, BookErr};
+pub use book_lock::{BookLock, Booked, LaneSeat};
+pub use gated::{Fixed, Gated};
+pub use switch::{Lane, Switch};
