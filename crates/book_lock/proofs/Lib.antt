@@ -2,3 +2,4 @@ pub mod Lists
 pub mod Merging
 pub mod Gathering
 pub mod Keeping
+pub mod Sums

@@ -9,3 +9,6 @@ mod steps;
 pub use booked::Booked;
 pub use law::{Base, Made, Turns};
 pub use lock::{BookLock, LaneSeat};
+
+#[cfg(test)]
+mod tests;
