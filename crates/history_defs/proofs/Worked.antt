@@ -1,9 +1,15 @@
 -- Worked examples, by computation: they test the definitions.
-use Rattle.std.proofs.Common.{◌≡◌, ℕ, refl, List, [], ◌∷◌, ◌++◌, codes}
+use Rattle.std.proofs.Common.{◌≡◌, ℕ, refl, true, List, [], ◌∷◌, ◌++◌, codes, replicate}
 use Rattle.std.specs.Fmt.{digits}
 use Rattle.hex.proofs.OnLiterals.{hex_on_literals}
 use Rattle.switch_event.specs.Config.{empty}
+use Rattle.switch_event.specs.Event.Happening.{Link}
+use Rattle.switch_event.specs.declared.decision.Decision.TheVariants.{Forward}
+use Rattle.trace_defs.specs.Output.{data_block}
 use Rattle.trace_defs.specs.Trace.{trace_of, fate, whole, progress_of}
+use Rattle.history_defs.specs.Switch.{State, opening}
+use Rattle.history_defs.specs.Turn.{turn}
+use Rattle.history_defs.specs.Decide.{decide}
 use Rattle.history_defs.specs.Output.{plain}
 
 -- one server, and one port of each control
@@ -102,3 +108,27 @@ drops : printed drops_text ≡
     codes "d 6 1 drop group-source" ++ 10 ∷ []
 unfolding hex_on_literals digits
 drops = refl
+
+-- the state with the link of port 2 up, and the block of a frame on that port
+abbrev two_up : State
+two_up = (turn (opening (progress_of (trace_of 67108864 1048576 empty settings)).config) (Link 2 true)).state
+
+abbrev block_of : List ℕ → List ℕ
+block_of frame = data_block 4 1 (decide two_up 2 frame) frame
+
+-- six octets of a destination and of a source, and a type
+abbrev head : List ℕ
+head = 255 ∷ 255 ∷ 255 ∷ 255 ∷ 255 ∷ 255 ∷ 2 ∷ 0 ∷ 0 ∷ 0 ∷ 0 ∷ 187 ∷ 8 ∷ 0 ∷ []
+
+giant : block_of (head ++ replicate 1505 0) ≡ codes "d 4 1 drop giant" ++ 10 ∷ []
+unfolding hex_on_literals digits
+giant = refl
+
+not_giant : decide two_up 2 (head ++ replicate 1504 0) ≡ Forward 0 20
+unfolding hex_on_literals digits
+not_giant = refl
+
+-- a frame of the type of EAPOL is no data in a trace; as data it is dropped, before anything else is looked at
+control : block_of (1 ∷ 128 ∷ 194 ∷ 0 ∷ 0 ∷ 3 ∷ 3 ∷ 0 ∷ 0 ∷ 0 ∷ 0 ∷ 187 ∷ 136 ∷ 142 ∷ []) ≡ codes "d 4 1 drop control" ++ 10 ∷ []
+unfolding hex_on_literals digits
+control = refl

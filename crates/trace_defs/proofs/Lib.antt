@@ -22,3 +22,4 @@ pub mod ConfigBack
 pub mod ReadsBack
 pub mod TextBack
 mod LineExamples
+mod OutputExamples

@@ -1,5 +1,5 @@
 -- Lines and what they mean, by computation: they test the definitions.
-use Rattle.std.proofs.Common.{◌≡◌, ℕ, refl, true, false, List, [], ◌∷◌, ◌++◌, map, codes, Result, Ok, Err}
+use Rattle.std.proofs.Common.{◌≡◌, ℕ, refl, true, false, List, [], ◌∷◌, ◌++◌, map, codes, replicate, Result, Ok, Err}
 use Rattle.std.specs.Fmt.{digits}
 use Rattle.hex.proofs.OnLiterals.{hex_on_literals}
 use Rattle.machine_vars.specs.declared.control.Control.TheVariants.{Auto}
@@ -7,7 +7,7 @@ use Rattle.switch_event.specs.Config.{Config, empty}
 use Rattle.switch_event.specs.Event.Happening.{Link, Second, Frame, Radius, Dynamic}
 use Rattle.hex.specs.Hex.{encode_with}
 use Rattle.trace_defs.specs.declared.given.TheConstants.{BRIDGE, NAS, SERVER, QUIET_PERIOD, SERVER_TIMEOUT, REAUTH_MAX, REAUTH_PERIOD, REAUTH, DYN_WINDOW, CLOCK, SEED, GUEST_WAIT, REQUIRE_MA}
-use Rattle.trace_defs.specs.declared.reason.TheConstants.{OCTET, LANE, WORD, PLACE, COUNT, NUMBER, HEX, NAME, PORT, LANED, TWICE, MISSING, UNBUILT}
+use Rattle.trace_defs.specs.declared.reason.TheConstants.{LONG, OCTET, LANE, WORD, PLACE, COUNT, NUMBER, HEX, NAME, PORT, LANED, TWICE, MISSING, UNBUILT}
 use Rattle.trace_defs.specs.Text.{config_text, record_text}
 use Rattle.trace_defs.specs.Line.{Line, line_of}
 use Rattle.trace_defs.specs.Line.Line.{Blank, Begin, Sync, Setting, Entry}
@@ -35,6 +35,25 @@ after text = line_of two_ports 4 true text
 
 abbrev refused : ℕ → List (Result Line ℕ) → List (Result Line ℕ)
 refused why lines = map (λ line. Err why) lines
+
+-- 10,241 octets are too many, whatever they are; one carriage return behind 10,240 does not count
+abbrev long_lines : List (Result Line ℕ)
+long_lines =
+    before (replicate 10241 120) ∷ after (replicate 10241 7) ∷ before (codes "begin" ++ replicate 10236 32)
+    ∷ after (replicate 10240 120 ++ 13 ∷ 13 ∷ []) ∷ []
+
+long_refused : long_lines ≡ refused LONG long_lines
+long_refused = refl
+
+abbrev just_fitting : List (Result Line ℕ)
+just_fitting = before (replicate 10240 120) ∷ after (replicate 10240 120 ++ 13 ∷ []) ∷ []
+
+just_fitting_unknown : just_fitting ≡ refused WORD just_fitting
+just_fitting_unknown = refl
+
+-- however long they are, a comment and a line of spaces mean nothing
+long_blanks : before (35 ∷ replicate 10241 7) ∷ after (replicate 10241 32) ∷ [] ≡ Ok Blank ∷ Ok Blank ∷ []
+long_blanks = refl
 
 abbrev wrong_octets : List (Result Line ℕ)
 wrong_octets = before (9 ∷ codes "port") ∷ before (codes "@4" ++ 127 ∷ []) ∷ after (codes "sync" ++ 13 ∷ 13 ∷ []) ∷ before (13 ∷ 13 ∷ []) ∷ []

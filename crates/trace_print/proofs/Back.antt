@@ -1,5 +1,5 @@
 -- What is printed reads back.
-use Rattle.std.proofs.Common.{◌≡◌, ℕ, true, List, [], ◌∷◌, ◌++◌, Some, Result, Ok, Err, OnOk, unwrap_or, sym, ap, ◌∙◌, subst, append-nil}
+use Rattle.std.proofs.Common.{◌≡◌, ℕ, true, List, [], ◌++◌, Some, Result, Ok, Err, OnOk, unwrap_or, sym, ap, ◌∙◌, subst, append-nil}
 use Rattle.wire_defs.specs.Text.{ended_lines}
 use Rattle.switch_event.specs.Config.{Config, empty}
 use Rattle.trace_defs.specs.Line.{Record as Entered, line_of}

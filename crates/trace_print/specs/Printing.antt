@@ -1,5 +1,5 @@
 -- What is printed.
-use Rattle.std.specs.Prelude.{◌≡◌, ℕ, ◌≤◌, List, [], ◌∷◌, ◌++◌, Option, Some, None, Ok, map, codes, length, true}
+use Rattle.std.specs.Prelude.{◌≡◌, ℕ, ◌≤◌, List, [], ◌∷◌, ◌++◌, Option, Some, None, Ok, codes, length, true}
 use Rattle.wire_defs.specs.Text.{ended_lines}
 use Rattle.switch_event.specs.Config.{Config, empty}
 use Rattle.trace_defs.specs.Trace.{Progress, read_lines, start}

@@ -1,7 +1,4 @@
-use Rattle.std.proofs.Common.{◌≡◌, ℕ, ◌+◌, ◌<◌, List, [], ◌∷◌, ◌++◌, length, take, Some, zero, suc, refl, sym, ap, ◌∙◌, arith, append_assoc, append-nil}
-use Rattle.std.specs.Prelude.{slice_get}
-use Rattle.switch_event.specs.Sent.{Sent}
-use Rattle.trace_defs.specs.Output.{sent_line, sent_lines}
+use Rattle.std.proofs.Common.{ap, ◌∙◌, arith}
 use Rattle.trace_print.proofs.Texts.{sent_more}
 use Rattle.trace_print.proofs.blocks.put_sent.Goals as goal
 use Rattle.trace_print.proofs.blocks.put_sent.Goals.{in-Some+in_ok-put_one, in_default}

@@ -1,4 +1,4 @@
-use Rattle.std.proofs.Common.{sym, ◌∙◌}
+use Rattle.std.proofs.Common.{◌∙◌}
 use Rattle.trace_print.proofs.Texts.{dotted_is}
 use Rattle.trace_print.proofs.piece.dotted.Goals as goal
 

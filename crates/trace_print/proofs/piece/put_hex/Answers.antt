@@ -1,4 +1,4 @@
-use Rattle.std.proofs.Common.{◌≡◌, ◌+◌, ◌*◌, ◌/◌, ◌%◌, ◌∷◌, [], ◌++◌, length, take, get_or, ℕ, List, sym, ap, ap₂, ◌∙◌, arith, append-nil, append_assoc, length-append, length-take-le}
+use Rattle.std.proofs.Common.{◌≡◌, ◌/◌, ◌%◌, ◌∷◌, [], ◌++◌, length, take, get_or, ℕ, List, sym, ap, ap₂, ◌∙◌, arith, append-nil, append_assoc, length-append, length-take-le}
 use Rattle.hex.specs.Hex.{encode_lower, lower_digits}
 use Rattle.hex.proofs.HexLemmas.{length-encode_with}
 use Rattle.trace_print.proofs.Texts.{encode-none, encode-more}

@@ -1,4 +1,4 @@
-use Rattle.std.proofs.Common.{◌≡◌, ℕ, ◌≤◌, ◌≢◌, sym, ap, ◌∙◌, arith, ◌∷◌, ◌++◌, []}
+use Rattle.std.proofs.Common.{◌≡◌, sym, ap, ◌∙◌, arith, ◌∷◌, ◌++◌, []}
 use Rattle.std.proofs.lemmas.Fmt.{decimal_digit}
 use Rattle.trace_defs.specs.Text.{lane_mark}
 use Rattle.trace_print.proofs.records.lane_mark.Goals as goal
