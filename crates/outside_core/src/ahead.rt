@@ -1,5 +1,5 @@
 // Octets that were read ahead of their use.
-ghost use Rattle.std.specs.Prelude.{◌≡◌, ◌≤◌, ◌<◌, ◌↔◌, [], List, ℕ, ◌++◌, length, take, drop, min, slice_range, IsTrue, OnErr, OnOk, MatchResult};
+ghost use Rattle.std.specs.Prelude.{◌≡◌, ◌≤◌, ◌<◌, ◌↔◌, [], ◌∷◌, List, ℕ, ◌++◌, length, take, drop, min, slice_range, IsTrue, OnErr, OnOk, MatchResult};
 ghost use Rattle.std.specs.Io.{ReadsAtMost};
 ghost use Rattle.std.specs.Io.KnownBytes.{Keeps, Consumes, IsAtEnd, ReadConsumes};
 
@@ -60,6 +60,29 @@ impl Ahead {
 
     /// Moves the first octets into `buf`, as many as it has room for, and answers how many.
     pub fn give(&mut self, buf: &mut [u8]) -> usize
+        ensures octets { self.old ≡ take result buf.new ++ self.new }
+        ensures most { result ≡ min (length self.old) (length buf.old) }
+    {
+        match buf {
+            [octet] => self.give_one(octet),
+            _ => self.give_many(buf),
+        }
+    }
+
+    // A run asks for one octet at a time: it is moved without a call.
+    fn give_one(&mut self, octet: &mut u8) -> usize
+        ensures octets { self.old ≡ take result (octet.new ∷ []) ++ self.new }
+        ensures most { result ≡ min (length self.old) 1 }
+    {
+        if self.at == self.end {
+            return 0;
+        }
+        *octet = self.octets[self.at];
+        self.at += 1;
+        1
+    }
+
+    fn give_many(&mut self, buf: &mut [u8]) -> usize
         ensures octets { self.old ≡ take result buf.new ++ self.new }
         ensures most { result ≡ min (length self.old) (length buf.old) }
     {

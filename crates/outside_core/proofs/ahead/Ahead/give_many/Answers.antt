@@ -1,7 +1,7 @@
 use Rattle.std.proofs.Common.{◌≡◌, ◌+◌, ◌-◌, ◌≤◌, ◌++◌, length, take, drop, min, sym, ap, ◌∙◌, arith, length-drop}
 use Rattle.std.proofs.lemmas.List.{length-take-le}
 use Rattle.outside_core.proofs.Moves.{moved, range_later}
-use Rattle.outside_core.proofs.ahead.Ahead.give.Goals as goal
+use Rattle.outside_core.proofs.ahead.Ahead.give_many.Goals as goal
 
 pub returns-clause-octets : goal.returns-clause-octets
 returns-clause-octets c =
