@@ -1,7 +1,7 @@
 // What is printed, octet by octet.
 use crate::{
     Config, Decided, Decision, Drop9, Line, Outcome, Tray, can_come, print_config, print_control,
-    print_data, print_line,
+    print_data, print_line, print_trace,
 };
 use arrayvec::ArrayVec;
 use out_tray::Sent;
@@ -51,8 +51,7 @@ seed 0000000000000000000000000000000000000000000000000000000000000000
 begin
 ";
 
-#[test]
-fn settings_print_in_their_order(rt: HostRuntime) -> Result<(), Fail> {
+fn settings() -> Config {
     let mut c = Config::empty();
     c.server = Addr {
         ip: [192, 0, 2, 20],
@@ -68,9 +67,40 @@ fn settings_print_in_their_order(rt: HostRuntime) -> Result<(), Fail> {
     let _fits = c.ports.try_push(port(2, 4094, 77));
     c.guest_wait = 5;
     c.require_ma = false;
+    c
+}
+
+#[test]
+fn settings_print_in_their_order(rt: HostRuntime) -> Result<(), Fail> {
     let mut out = Vec::new(rt.alloc());
-    print_config(&c, &mut out)?;
+    print_config(&settings(), &mut out)?;
     assert_eq!(rt; out.as_slice(), PRINTED.as_bytes());
+    Ok(())
+}
+
+#[test]
+fn a_trace_prints_its_settings_and_then_its_phases(rt: HostRuntime) -> Result<(), Fail> {
+    let lines = [
+        Line::Setting,
+        Line::Begin,
+        Line::Blank,
+        Line::Control {
+            lane: 2,
+            what: Record::Link { port: 3, up: true },
+        },
+        Line::Sync,
+        Line::Data {
+            port: 1,
+            octets: octets(rt.alloc(), &[0xab])?,
+        },
+        Line::Sync,
+    ];
+    let mut out = b"before\n".to_vec(rt.alloc())?;
+    print_trace(&settings(), &lines, &mut out)?;
+    let printed = format!(in rt.alloc();
+        "before\n{PRINTED}@2 link 3 up\nsync\nframe 1 ab\nsync\n"
+    )?;
+    assert_eq!(rt; out.as_slice(), printed.as_bytes());
     Ok(())
 }
 
