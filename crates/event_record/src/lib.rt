@@ -9,7 +9,7 @@ pub use entry::Entry;
 pub use octets::Octets;
 pub use record::Record;
 
-/// The most control events of a run.
+/// The most control events of a history, and so the most control records of a trace.
 pub const MOST_EVENTS: usize = 1_048_576;
 
 #[cfg(test)]

@@ -4,7 +4,8 @@ use Rattle.std.specs.List.{concat}
 use Rattle.std.specs.Fmt.{decimal}
 use Rattle.trace_defs.specs.Reason.{reason_name}
 use Rattle.trace_defs.specs.Output.{line_feed}
-use Rattle.history_defs.specs.declared.TheConstants.{MOST_OCTETS, MOST_CONTROLS}
+use Rattle.event_record.specs.declared.TheConstants.{MOST_EVENTS}
+use Rattle.history_defs.specs.declared.TheConstants.{MOST_OCTETS}
 
 -- of 0 nothing, of 3 what `refusal_text` has, of any other its name, with the limit that was passed
 abbrev pub status_text : ℕ → List ℕ
@@ -13,7 +14,7 @@ status_text status =
     else if status == 2 then codes "usage" ++ line_feed
     else if status == 4 then codes "read fault" ++ line_feed
     else if status == 5 then codes "write fault" ++ line_feed
-    else if status == 6 then concat (codes "full: " ∷ decimal MOST_CONTROLS ∷ line_feed ∷ [])
+    else if status == 6 then concat (codes "full: " ∷ decimal MOST_EVENTS ∷ line_feed ∷ [])
     else if status == 8 then concat (codes "too long: " ∷ decimal MOST_OCTETS ∷ line_feed ∷ [])
     else []
 

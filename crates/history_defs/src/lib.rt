@@ -7,9 +7,6 @@ use switch_event::PortConf;
 /// How many octets a trace may have.
 pub const MOST_OCTETS: usize = 67_108_864;
 
-/// How many control records a history may have.
-pub const MOST_CONTROLS: u64 = 1_048_576;
-
 /// A configured port as it stands.
 #[derive(Clone, Copy, Debug, PartialEq, Eq)]
 pub struct Port {

@@ -8,7 +8,8 @@ ghost use Rattle.race_run.specs.Streams.{Says};
 ghost use Rattle.race_run.specs.Ending.{OfText, EndsByFate, TakesGiven, HalfWritten, StopsShort, refusal_of};
 ghost use Rattle.switch_run.specs.Top.{is_replay as is_replay_lem, IsByText, IsStatus, OfGiven};
 
-use history_defs::{MOST_CONTROLS, MOST_OCTETS};
+use event_record::MOST_EVENTS;
+use history_defs::MOST_OCTETS;
 use outside_core::{Sink, Source};
 use race_run::{replay_within, say, say_ending, status, status_words};
 use std::alloc::Global;
@@ -30,32 +31,32 @@ pub fn switch_top<S: Source, K: Sink>(
 
     // The status is that of the text, and what was written is the output of its whole phases. It is that of the text
     // always, unless something outside failed or there was no memory.
-    ensures by_text { IsByText result → OfText (S.left source.old) (λ b. EndsByFate MOST_OCTETS MOST_CONTROLS empty b (K.taken out.old) (K.taken out.new) result) }
+    ensures by_text { IsByText result → OfText (S.left source.old) (λ b. EndsByFate MOST_OCTETS MOST_EVENTS empty b (K.taken out.old) (K.taken out.new) result) }
     ensures always { (Rose (S.faults source.old) (S.faults source.new) → ⊥) → (Rose (K.faults out.old) (K.faults out.new) → ⊥) → result ≢ 1 → result ≢ 2 → IsByText result }
     ensures at_end { result ≡ 0 → IsAtEnd (S.left source.new) }
 
     // A fault comes only where a count rose. What was written is the output of the phases that were given as a whole;
     // after a write fault that of the phases before the one of the last line that was given, and a part of its blocks.
     ensures read_fault { result ≡ 4 → Rose (S.faults source.old) (S.faults source.new) }
-    ensures read_output { result ≡ 4 → OfGiven (S.left source.old) (S.left source.new) (λ given. TakesGiven MOST_CONTROLS empty given (K.taken out.old) (K.taken out.new)) }
+    ensures read_output { result ≡ 4 → OfGiven (S.left source.old) (S.left source.new) (λ given. TakesGiven MOST_EVENTS empty given (K.taken out.old) (K.taken out.new)) }
     ensures write_fault { result ≡ 5 → Rose (K.faults out.old) (K.faults out.new) }
     ensures write_output { result ≡ 5 → OfGiven (S.left source.old) (S.left source.new) (λ given.
-        HalfWritten MOST_OCTETS MOST_CONTROLS empty given (S.left source.new) (K.taken out.old) (K.taken out.new)) }
+        HalfWritten MOST_OCTETS MOST_EVENTS empty given (S.left source.new) (K.taken out.old) (K.taken out.new)) }
 
     // Where there was no memory, what was written is the output of the phases before the last line that was given.
     ensures memory_output { result ≡ 1 → OfGiven (S.left source.old) (S.left source.new) (λ given.
-        StopsShort MOST_OCTETS MOST_CONTROLS empty given (S.left source.new) (K.taken out.old) (K.taken out.new)) }
+        StopsShort MOST_OCTETS MOST_EVENTS empty given (S.left source.new) (K.taken out.old) (K.taken out.new)) }
 
     // The text of the status was taken by `err`, all of it where its count did not rise.
     ensures said { result ≢ 3 → Says (K.taken err.old) (K.taken err.new) (K.faults err.old) (K.faults err.new) (status_text result) }
     ensures refused { result ≡ 3 → OfText (S.left source.old) (λ b. Says (K.taken err.old) (K.taken err.new) (K.faults err.old) (K.faults err.new)
-        (refusal_of MOST_OCTETS MOST_CONTROLS empty b)) }
+        (refusal_of MOST_OCTETS MOST_EVENTS empty b)) }
 {
     if !is_replay(words) {
         say(err, status_words(2));
         return 2;
     }
-    let ending = replay_within(alloc, MOST_OCTETS, MOST_CONTROLS, source, out);
+    let ending = replay_within(alloc, MOST_OCTETS, MOST_EVENTS as u64, source, out);
     say_ending(err, ending);
     status(ending)
 }
