@@ -1,4 +1,4 @@
-//! Control events that own their octets, alone and with the lane that they came on. They are plain data.
+//! Control events that own their octets, alone and with the lane that they came on: plain data.
 #![tactic(auto)]
 
 mod entry;

@@ -33,7 +33,8 @@ abbrev pub by_port : Option Port → Option Right → Decision
 by_port None r = Drop Down
 by_port (Some p) r = if p.link then by_control p.conf.control p.conf.native r else Drop Down
 
--- the first line that applies, by the fields of a frame and by what is known of the port and of the source
+-- the first line that applies, by the fields of a frame and by what is known of the port and of the
+-- source
 abbrev pub by_fields : Frame → Option Port → Option Right → Decision
 by_fields frame p r =
     if frame.kind == eapol_kind then Drop IsControl

@@ -9,7 +9,8 @@ use Rattle.history_defs.specs.Switch.{State, opening}
 use Rattle.history_defs.specs.Turn.{turn}
 use Rattle.history_defs.specs.Decide.{decide}
 
--- how far the output is: the state, the number of the next record, and the number of control records before it
+-- how far the output is: the state, the number of the next record, and the number of control
+-- records before it
 pub record Place : Type 0 where
   pub state : State
   pub number : ℕ
@@ -19,11 +20,13 @@ abbrev pub first_place : Config → Place
 first_place config = record { state = opening config; number = 1; serial = 0 }
 
 abbrev pub block : Place → Record → List ℕ
-block at (Control lane event) = control_block at.number 1 at.serial (turn at.state event).outcome (turn at.state event).sent
+block at (Control lane event) =
+    control_block at.number 1 at.serial (turn at.state event).outcome (turn at.state event).sent
 block at (Data port octets) = data_block at.number at.serial (decide at.state port octets) octets
 
 abbrev pub next_place : Place → Record → Place
-next_place at (Control lane event) = record { state = (turn at.state event).state; number = at.number + 1; serial = at.serial + 1 }
+next_place at (Control lane event) =
+    record { state = (turn at.state event).state; number = at.number + 1; serial = at.serial + 1 }
 next_place at (Data port octets) = record at { number = at.number + 1 }
 
 abbrev pub blocks : Place → List Record → List ℕ
@@ -34,7 +37,7 @@ abbrev pub place_after : Place → List Record → Place
 place_after at [] = at
 place_after at (r ∷ rest) = place_after (next_place at r) rest
 
--- the output of a run on one thread: each control record has lane 1 and as its serial the number of control records
--- before it, each data record has that number as its front
+-- the output of a run on one thread: each control record has lane 1 and as its serial the number of
+-- control records before it, each data record has that number as its front
 abbrev pub plain : Config → List (List Record) → List ℕ
 plain config phases = blocks (first_place config) (flat_map (λ phase. phase) phases)

@@ -20,4 +20,5 @@ status_text status =
 
 -- `line N: NAME`
 abbrev pub refusal_text : (line reason : ℕ) → List ℕ
-refusal_text line reason = concat (codes "line " ∷ decimal line ∷ codes ": " ∷ reason_name reason ∷ line_feed ∷ [])
+refusal_text line reason =
+    concat (codes "line " ∷ decimal line ∷ codes ": " ∷ reason_name reason ∷ line_feed ∷ [])

@@ -28,7 +28,8 @@ port_of n s = find (λ p. p.conf.port == n) s.ports
 
 -- a frame that carries an EAP packet (IEEE Std 802.1X-2004, 7.5)
 abbrev pub eap_frame : List ℕ → List ℕ → List ℕ → List ℕ
-eap_frame to source eap = plain_text (record { to = to; source = source; kind = eapol_kind; body = eapol_text eap })
+eap_frame to source eap =
+    plain_text (record { to = to; source = source; kind = eapol_kind; body = eapol_text eap })
 
 abbrev pub opened_port : PortConf → Port
 opened_port conf = record { conf = conf; link = false }

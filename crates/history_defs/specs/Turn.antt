@@ -22,22 +22,30 @@ with_link n up p = record p { link = if p.conf.port == n then up else p.link }
 abbrev pub set_link : ℕ → Bool → State → State
 set_link n up s = record s { ports = map (with_link n up) s.ports }
 
--- the EAP packet that a port sends as its link comes up (IEEE Std 802.1X-2004, 8.2.4): an Auto port asks for the
--- identity, a forced one says what is decided already
+-- the EAP packet that a port sends as its link comes up (IEEE Std 802.1X-2004, 8.2.4): an Auto port
+-- asks for the identity, a forced one says what is decided already
 abbrev pub greeting : Control → List ℕ
 greeting Auto = identity_request 0
 greeting ForceAuth = canned true 0
 greeting ForceUnauth = canned false 0
 
 abbrev pub greeting_frame : Config → PortConf → Sent
-greeting_frame config conf = ToHost conf.port (eap_frame pae_group (port_address config.bridge conf.port) (greeting conf.control))
+greeting_frame config conf =
+    ToHost conf.port
+    (eap_frame pae_group (port_address config.bridge conf.port) (greeting conf.control))
 
 -- a link that was so, and becomes so
 abbrev pub change_link : Bool → Bool → PortConf → State → Turned
 change_link true true conf s = still s
 change_link false false conf s = still s
-change_link true false conf s = record { state = set_link conf.port false s; outcome = Done; sent = [] }
-change_link false true conf s = record { state = set_link conf.port true s; outcome = Done; sent = greeting_frame s.config conf ∷ [] }
+change_link true false conf s =
+    record { state = set_link conf.port false s; outcome = Done; sent = [] }
+change_link false true conf s =
+    record {
+      state = set_link conf.port true s;
+      outcome = Done;
+      sent = greeting_frame s.config conf ∷ [];
+    }
 
 abbrev pub do_link : Option Port → Bool → State → Turned
 do_link None up s = still s

@@ -1,5 +1,5 @@
-//! What a trace gives: the state of the switch, its turns and its decisions, and the output of a run on one thread. The
-//! definitions stand in specs/; here is the plain type that they speak of.
+//! What a trace gives: the state of the switch, its turns and its decisions, and the output of a
+//! run on one thread. The definitions stand in specs/; here is the plain type that they speak of.
 #![tactic(auto)]
 
 use switch_event::PortConf;

@@ -44,13 +44,15 @@ impl Ahead {
         self.at == self.end
     }
 
-    /// Reads more, where none is left. None comes only at the end of what the reader has remaining, and after
-    /// [`Failed`] as much remains as before.
+    /// Reads more, where none is left. None comes only at the end of what the reader has remaining,
+    /// and after [`Failed`] as much remains as before.
     pub fn fill<R: Read>(&mut self, reader: &mut R) -> Result<(), Failed>
         requires { self.old ≡ [] }
-        ensures octets { OnOk result (Consumes (R.remaining reader.old) (R.remaining reader.new) self.new) }
+        ensures octets { OnOk result
+            (Consumes (R.remaining reader.old) (R.remaining reader.new) self.new) }
         ensures end { OnOk result (self.new ≡ [] → IsAtEnd (R.remaining reader.new)) }
-        ensures failed { OnErr result ((self.new ≡ []) × Keeps (R.remaining reader.old) (R.remaining reader.new)) }
+        ensures failed { OnErr result
+            ((self.new ≡ []) × Keeps (R.remaining reader.old) (R.remaining reader.new)) }
     {
         let count = read_again(reader, &mut self.octets)?;
         self.at = 0;

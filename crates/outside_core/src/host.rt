@@ -7,9 +7,10 @@ use crate::ahead::Ahead;
 use crate::{Failed, Sink, Source};
 use std::io::{ErrorKind, Read, Write};
 
-/// A source over a reader, as standard input. It reads up to 4,096 octets ahead. What it has left is what was read ahead
-/// and what the reader has remaining, where the reader tells that. A read that was interrupted is made again; any other
-/// error of the reader is a fault, after which the source goes on where it stood.
+/// A source over a reader, as standard input. It reads up to 4,096 octets ahead. What it has left
+/// is what was read ahead and what the reader has remaining, where the reader tells that. A read
+/// that was interrupted is made again; any other error of the reader is a fault, after which the
+/// source goes on where it stood.
 #[derive(Drop)]
 pub struct StdSource<R> {
     reader: R,
@@ -48,9 +49,9 @@ impl<R: Read> Source for StdSource<R> {
     }
 }
 
-/// A sink over a writer, as standard output. What it has taken is what the writer contains, where the writer tells that.
-/// A write that was interrupted is made again; any other error is a fault, and so is a write that takes nothing of a
-/// piece that is not empty.
+/// A sink over a writer, as standard output. What it has taken is what the writer contains, where
+/// the writer tells that. A write that was interrupted is made again; any other error is a fault,
+/// and so is a write that takes nothing of a piece that is not empty.
 #[derive(Drop)]
 pub struct StdSink<W> {
     writer: W,
@@ -83,7 +84,8 @@ impl<W: Write> Sink for StdSink<W> {
     }
 }
 
-// One write, made again where it was interrupted. It fails where it takes nothing of a piece that is not empty.
+// One write, made again where it was interrupted. It fails where it takes nothing of a piece that
+// is not empty.
 fn write_again<W: Write>(writer: &mut W, piece: &[u8]) -> Result<usize, Failed>
     ensures bound { WritesAtMost result piece.now }
     ensures octets { WriteAppends (W.contents writer.old) (W.contents writer.new) result piece.now }

@@ -21,14 +21,20 @@ pub struct MemSource {
 impl Model for MemSource {
     ghost Value = { Feed };
 
-    ghost view = { λ s. record { left = drop s.at s.octets.items; step = s.step; fails = s.fails.items; calls = s.calls; faults = s.faults } };
+    ghost view = { λ s. record {
+      left = drop s.at s.octets.items;
+      step = s.step;
+      fails = s.fails.items;
+      calls = s.calls;
+      faults = s.faults;
+    } };
 
     ghost invariant = { λ s. (s.at ≤ length s.octets.items) × (1 ≤ s.step) };
 }
 
 impl MemSource {
-    /// A source of these octets. One read gives at most `step` of them; `fails` has the numbers, from 0, of the calls
-    /// that fail.
+    /// A source of these octets. One read gives at most `step` of them; `fails` has the numbers,
+    /// from 0, of the calls that fail.
     pub fn new(
         alloc: Global,
         octets: &[u8],
@@ -36,7 +42,13 @@ impl MemSource {
         fails: &[u64],
     ) -> Result<MemSource, AllocError>
         requires { 1 ≤ step }
-        ensures { IfOk result (λ s. s ≡ record { left = octets.now; step = step; fails = fails.now; calls = 0; faults = 0 }) }
+        ensures { IfOk result (λ s. s ≡ record {
+          left = octets.now;
+          step = step;
+          fails = fails.now;
+          calls = 0;
+          faults = 0;
+        }) }
     {
         Ok(MemSource {
             octets: octets.to_vec(alloc)?,
@@ -59,7 +71,8 @@ impl Source for MemSource {
         ensures octets { ReadConsumes (Some self.old.left) (Some self.new.left) result buf.new }
         ensures cause { HasCause self.old.faults self.new.faults result }
         ensures listed { IsErr result ↔ Contains self.old.fails self.old.calls }
-        ensures most { IfOk result (λ n. n ≡ min (min (length self.old.left) (length buf.old)) self.old.step) }
+        ensures most { IfOk result (λ n.
+            n ≡ min (min (length self.old.left) (length buf.old)) self.old.step) }
         ensures value { self.new ≡ after_read result self.old }
     {
         let call = self.calls;
@@ -89,16 +102,28 @@ pub struct MemSink {
 impl Model for MemSink {
     ghost Value = { Drain };
 
-    ghost view = { λ s. record { taken = take s.len s.octets.items; room = length s.octets.items; fails = s.fails.items; calls = s.calls; faults = s.faults } };
+    ghost view = { λ s. record {
+      taken = take s.len s.octets.items;
+      room = length s.octets.items;
+      fails = s.fails.items;
+      calls = s.calls;
+      faults = s.faults;
+    } };
 
     ghost invariant = { λ s. s.len ≤ length s.octets.items };
 }
 
 impl MemSink {
-    /// A sink with room for so many octets, whose memory it takes here; `fails` has the numbers, from 0, of the calls
-    /// that fail.
+    /// A sink with room for so many octets, whose memory it takes here; `fails` has the numbers,
+    /// from 0, of the calls that fail.
     pub fn new(alloc: Global, room: usize, fails: &[u64]) -> Result<MemSink, AllocError>
-        ensures { IfOk result (λ s. s ≡ record { taken = []; room = room; fails = fails.now; calls = 0; faults = 0 }) }
+        ensures { IfOk result (λ s. s ≡ record {
+          taken = [];
+          room = room;
+          fails = fails.now;
+          calls = 0;
+          faults = 0;
+        }) }
     {
         Ok(MemSink {
             octets: vec![in alloc; 0; room]?,
@@ -127,7 +152,8 @@ impl Sink for MemSink {
         ensures octets { WriteAppends (Some self.old.taken) (Some self.new.taken) result piece.now }
         ensures some { TakesSome self.old.faults self.new.faults result piece.now }
         ensures cause { HasCause self.old.faults self.new.faults result }
-        ensures fails { IsErr result ↔ (Contains self.old.fails self.old.calls ⊎ (self.old.room < length self.old.taken + length piece.now)) }
+        ensures fails { IsErr result ↔ (Contains self.old.fails self.old.calls
+            ⊎ (self.old.room < length self.old.taken + length piece.now)) }
         ensures whole { IfOk result (λ n. n ≡ length piece.now) }
         ensures value { self.new ≡ after_write result piece.now self.old }
     {

@@ -15,9 +15,9 @@ pub trait Source {
     /// How often it has failed. The count stays at 18,446,744,073,709,551,615.
     ghost faults: { Self → ℕ };
 
-    /// Moves the first octets that are left into `buf`, and answers how many: at most the length of `buf`, and for a
-    /// `buf` that is not empty 0 exactly at the end of input. After [`Failed`], which comes only where the count of
-    /// faults rose, as much is left as before.
+    /// Moves the first octets that are left into `buf`, and answers how many: at most the length of
+    /// `buf`, and for a `buf` that is not empty 0 exactly at the end of input. After [`Failed`],
+    /// which comes only where the count of faults rose, as much is left as before.
     fn read(&mut self, buf: &mut [u8]) -> Result<usize, Failed>
         ensures bound { ReadsAtMost result buf.new }
         ensures octets { ReadConsumes (left self.old) (left self.new) result buf.new }
@@ -32,9 +32,9 @@ pub trait Sink {
     /// How often it has failed. The count stays at 18,446,744,073,709,551,615.
     ghost faults: { Self → ℕ };
 
-    /// Takes the first octets of `piece`, and answers how many: at most its length, and 0 for a `piece` that is not
-    /// empty only where the count of faults rose. After [`Failed`], which comes only where the count rose, nothing more
-    /// was taken.
+    /// Takes the first octets of `piece`, and answers how many: at most its length, and 0 for a
+    /// `piece` that is not empty only where the count of faults rose. After [`Failed`], which comes
+    /// only where the count rose, nothing more was taken.
     fn write(&mut self, piece: &[u8]) -> Result<usize, Failed>
         ensures bound { WritesAtMost result piece.now }
         ensures octets { WriteAppends (taken self.old) (taken self.new) result piece.now }

@@ -4,7 +4,8 @@ use Rattle.wire_defs.specs.Text.{ended_lines, open_line, last_line}
 use Rattle.switch_event.specs.Config.{Config}
 use Rattle.trace_defs.specs.Line.{line_of}
 
--- two beginnings of a line are read alike under all settings, whatever follows them, and neither is empty without the other
+-- two beginnings of a line are read alike under all settings, whatever follows them, and neither is
+-- empty without the other
 pub record ReadAlike (kept line : List ℕ) : Type 0 where
   pub alike : (config : Config) (given : ℕ) (begun : Bool) (more : List ℕ)
       → line_of config given begun (kept ++ more) ≡ line_of config given begun (line ++ more)
@@ -18,7 +19,8 @@ AreReadAlike [] (line ∷ lines) = ⊥
 AreReadAlike (text ∷ kept) [] = ⊥
 AreReadAlike (text ∷ kept) (line ∷ lines) = ReadAlike text line × AreReadAlike kept lines
 
--- of a text that was fed so far: what is kept of each line that it ended, in order, and what is kept of its open line
+-- of a text that was fed so far: what is kept of each line that it ended, in order, and what is
+-- kept of its open line
 pub record IsFed (fed : List ℕ) (lines : List (List ℕ)) (kept : List ℕ) : Type 0 where
   pub each_line : AreReadAlike lines (ended_lines fed)
   pub begun_line : ReadAlike kept (open_line fed)
@@ -39,7 +41,8 @@ is_line_feed octet = octet == 10
 abbrev pub len_to_feed : List ℕ → Option ℕ
 len_to_feed piece = option_map (λ at. at + 1) (position is_line_feed piece)
 
--- where there is no more room, the last octet that is kept stands for the rest of a line: a space for spaces, a carriage
--- return for one that may be the last octet, and else an octet that neither is
+-- where there is no more room, the last octet that is kept stands for the rest of a line: a space
+-- for spaces, a carriage return for one that may be the last octet, and else an octet that neither
+-- is
 abbrev pub stand_in_with : (last octet : ℕ) → ℕ
 stand_in_with last octet = if last == 32 then octet else if last == 13 then 120 else last

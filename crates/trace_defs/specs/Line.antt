@@ -30,7 +30,7 @@ pub data Record : Type 0 where
   Control : (lane : ℕ) → Happening → Record
   Data : (port : ℕ) → (octets : List ℕ) → Record
 
--- what a line means. A setting gives the settings after it, and the numbers of those that were given
+-- what a line means. A setting gives the settings after it, and the bits of those that were given
 pub data Line : Type 0 where
   Blank : Line
   Begin : Line
@@ -58,7 +58,8 @@ all_given = 8191
 
 -- a setting that is given once
 abbrev pub once : ℕ → ℕ → Config → Result Line ℕ
-once k given config = unless ((was_given k given, TWICE) ∷ []) (Ok (Setting config (with_given k given)))
+once k given config =
+    unless ((was_given k given, TWICE) ∷ []) (Ok (Setting config (with_given k given)))
 
 -- `bridge ADDRESS`
 abbrev pub bridge_line : Config → ℕ → List (List ℕ) → Result Line ℕ
@@ -101,8 +102,10 @@ port_line config given args = do
   port ← or_refused (number_in 1 60 word.0) NUMBER
   native ← or_refused (number_in 1 4094 word.1) NUMBER
   control ← or_refused (control_of word.2) NAME
-  let conf : PortConf = record { port = port; native = native; control = control; restricted = 0; guest = 0 }
-  unless ((has_port port config, TWICE) ∷ []) (Ok (Setting (record config { ports = config.ports ++ conf ∷ [] }) given))
+  let conf : PortConf =
+      record { port = port; native = native; control = control; restricted = 0; guest = 0 }
+  unless ((has_port port config, TWICE) ∷ [])
+      (Ok (Setting (record config { ports = config.ports ++ conf ∷ [] }) given))
 
 -- a VLAN of a port beside the one of its hosts, 0 where there is none
 abbrev pub other_vlan : OtherVlan → PortConf → ℕ
@@ -114,7 +117,8 @@ with_other_vlan Restricted vlan p = record p { restricted = vlan }
 with_other_vlan Guest vlan p = record p { guest = vlan }
 
 abbrev pub has_other_vlan : OtherVlan → ℕ → List PortConf → Bool
-has_other_vlan other port ports = list_any (λ p. p.port == port && not (other_vlan other p == 0)) ports
+has_other_vlan other port ports =
+    list_any (λ p. p.port == port && not (other_vlan other p == 0)) ports
 
 -- the ports, where that of a number has another VLAN
 abbrev pub change_vlan : OtherVlan → (port vlan : ℕ) → PortConf → PortConf
@@ -184,7 +188,8 @@ seed_line config given args = do
 
 -- `begin`, after `server`
 abbrev pub begin_line : ℕ → List (List ℕ) → Result Line ℕ
-begin_line given args = alone (unless ((not (was_given SERVER given), MISSING) ∷ []) (Ok Begin)) args
+begin_line given args =
+    alone (unless ((not (was_given SERVER given), MISSING) ∷ []) (Ok Begin)) args
 
 -- a setting by its first word and those behind it
 abbrev pub setting_line : Config → ℕ → SettingWord → List (List ℕ) → Result Line ℕ
@@ -217,7 +222,8 @@ in_lane None = 1
 in_lane (Some lane) = lane
 
 abbrev pub event_line : Option ℕ → Happening → Result Line ℕ
-event_line lane event = unless ((not (is_built event), UNBUILT) ∷ []) (Ok (Entry (Control (in_lane lane) event)))
+event_line lane event =
+    unless ((not (is_built event), UNBUILT) ∷ []) (Ok (Entry (Control (in_lane lane) event)))
 
 -- `frame PORT OCTETS`: a frame of the type of EAPOL is a control event, any other is data
 abbrev pub frame_line : Config → Option ℕ → List (List ℕ) → Result Line ℕ
@@ -225,8 +231,10 @@ frame_line config lane args = do
   word ← or_refused (two_of args) COUNT
   port ← or_refused (number_in 1 60 word.0) NUMBER
   octets ← or_refused (hex_in 0 MOST_FRAME_OCTETS word.1) HEX
-  unless ((not (has_port port config), PORT) ∷ (not (is_control octets) && is_some lane, LANED) ∷ [])
-      (if is_control octets then event_line lane (Frame port octets) else Ok (Entry (Data port octets)))
+  unless
+      ((not (has_port port config), PORT) ∷ (not (is_control octets) && is_some lane, LANED) ∷ [])
+      (if is_control octets then event_line lane (Frame port octets)
+      else Ok (Entry (Data port octets)))
 
 -- `radius OCTETS` for socket 0, and `radius SOCKET OCTETS`
 abbrev pub radius_line : Option ℕ → List (List ℕ) → Result Line ℕ
@@ -247,7 +255,8 @@ dyn_line lane args = do
 
 -- an event on a port
 abbrev pub port_event : Config → Option ℕ → ℕ → Happening → Result Line ℕ
-port_event config lane port event = unless ((not (has_port port config), PORT) ∷ []) (event_line lane event)
+port_event config lane port event =
+    unless ((not (has_port port config), PORT) ∷ []) (event_line lane event)
 
 -- `link PORT up` and `link PORT down`
 abbrev pub link_line : Config → Option ℕ → List (List ℕ) → Result Line ℕ
@@ -276,8 +285,8 @@ record_line config lane entry.Control args = control_line config lane args
 
 -- ---- a line
 
--- how a line begins: whether with the mark of a lane, the lane that it marks, and what the word behind it says; and the
--- words behind that
+-- how a line begins: whether with the mark of a lane, the lane that it marks, and what the word
+-- behind it says; and the words behind that
 pub record Head : Type 0 where
   pub marked : Bool
   pub lane : Option ℕ
@@ -291,7 +300,8 @@ is_mark (octet ∷ rest) = octet == 64
 
 abbrev pub behind_mark : Option ℕ → List (List ℕ) → Head
 behind_mark lane [] = record { marked = true; lane = lane; keyword = None; args = [] }
-behind_mark lane (word ∷ args) = record { marked = true; lane = lane; keyword = keyword_of word; args = args }
+behind_mark lane (word ∷ args) =
+    record { marked = true; lane = lane; keyword = keyword_of word; args = args }
 
 abbrev pub head_of : (first : List ℕ) → (behind : List (List ℕ)) → Head
 head_of word rest =
@@ -302,7 +312,7 @@ abbrev pub is_record : Option Keyword → Bool
 is_record (Some (IsRecord word)) = true
 is_record other = false
 
--- behind the mark of a lane stands the word of a control event; whether a frame is one is seen later
+-- behind the mark of a lane stands the word of a control event; that a frame is one is seen later
 abbrev pub has_wrong_lane : Head → Bool
 has_wrong_lane head = head.marked && (is_none head.lane || not (is_record head.keyword))
 
@@ -348,7 +358,8 @@ headed_line config given begun text head =
 -- a line by its octets and its words
 abbrev pub words_line : Config → ℕ → (begun : Bool) → List ℕ → List (List ℕ) → Result Line ℕ
 words_line config given begun text [] = Ok Blank
-words_line config given begun text (word ∷ rest) = headed_line config given begun text (head_of word rest)
+words_line config given begun text (word ∷ rest) =
+    headed_line config given begun text (head_of word rest)
 
 -- a line that begins with a number sign
 abbrev pub is_comment : List ℕ → Bool

@@ -24,10 +24,12 @@ socket_text socket = if socket == 0 then [] else decimal socket ++ codes " "
 abbrev pub sent_line : Sent → List ℕ
 sent_line (ToHost port octets) =
     concat (codes "f " ∷ decimal port ∷ codes " " ∷ encode_lower octets ∷ line_feed ∷ [])
-sent_line (ToServer socket octets) = concat (codes "r " ∷ socket_text socket ∷ encode_lower octets ∷ line_feed ∷ [])
+sent_line (ToServer socket octets) =
+    concat (codes "r " ∷ socket_text socket ∷ encode_lower octets ∷ line_feed ∷ [])
 sent_line (ToClient to octets) =
     concat (
-    codes "y " ∷ dotted to.ip ∷ codes " " ∷ decimal to.port ∷ codes " " ∷ encode_lower octets ∷ line_feed ∷ []
+    codes "y " ∷ dotted to.ip ∷ codes " " ∷ decimal to.port ∷ codes " " ∷ encode_lower octets
+    ∷ line_feed ∷ []
     )
 
 abbrev pub sent_lines : List Sent → List ℕ
@@ -102,7 +104,8 @@ can_come other = true
 
 -- the block of a control record
 abbrev pub control_block : ℕ → ℕ → ℕ → Outcome → List Sent → List ℕ
-control_block number lane serial outcome sent = control_line number lane serial outcome ++ sent_lines sent
+control_block number lane serial outcome sent =
+    control_line number lane serial outcome ++ sent_lines sent
 
 abbrev pub drop_name : Drop9 → List ℕ
 drop_name Runt = codes "runt"
@@ -115,15 +118,18 @@ drop_name Down = codes "down"
 drop_name Closed = codes "closed"
 drop_name Unauthorised = codes "unauthorised"
 
--- `d RECORD FRONT drop NAME`, or `d RECORD FRONT forward SESSION VLAN OCTETS`, with the frame that goes out
+-- `d RECORD FRONT drop NAME`, or, with the frame that goes out,
+-- `d RECORD FRONT forward SESSION VLAN OCTETS`
 abbrev pub data_line : ℕ → ℕ → Decision → List ℕ → List ℕ
 data_line number front (Drop why) out =
     concat (
-    codes "d " ∷ decimal number ∷ codes " " ∷ decimal front ∷ codes " drop " ∷ drop_name why ∷ line_feed ∷ []
+    codes "d " ∷ decimal number ∷ codes " " ∷ decimal front ∷ codes " drop " ∷ drop_name why
+    ∷ line_feed ∷ []
     )
 data_line number front (Forward session vlan) out =
     concat (
-    codes "d " ∷ decimal number ∷ codes " " ∷ decimal front ∷ codes " forward " ∷ decimal session ∷ codes " "
+    codes "d " ∷ decimal number ∷ codes " " ∷ decimal front ∷ codes " forward " ∷ decimal session
+    ∷ codes " "
     ∷ decimal vlan ∷ codes " " ∷ encode_lower out ∷ line_feed ∷ []
     )
 

@@ -6,7 +6,8 @@ use Rattle.trace_defs.specs.Trace.{Progress, Reading, read_lines, start}
 use Rattle.trace_defs.specs.Trace.Reading.{Going}
 
 -- the lines that ended in the octets lead to this progress, and this is what follows them
-pub record HasRead (room : ℕ) (config : Config) (given : List ℕ) (p : Progress) (part : List ℕ) : Type 0 where
+pub record HasRead (room : ℕ) (config : Config) (given : List ℕ) (p : Progress)
+    (part : List ℕ) : Type 0 where
   pub lines : read_lines room (start config) (ended_lines given) ≡ Going p
   pub line : open_line given ≡ part
 

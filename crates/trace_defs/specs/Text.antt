@@ -51,7 +51,8 @@ abbrev pub client_words : Client → List (List ℕ)
 client_words client = codes "client" ∷ dotted client.ip ∷ encode_lower client.secret ∷ []
 
 abbrev pub port_words : PortConf → List (List ℕ)
-port_words conf = codes "port" ∷ decimal conf.port ∷ decimal conf.native ∷ control_text conf.control ∷ []
+port_words conf =
+    codes "port" ∷ decimal conf.port ∷ decimal conf.native ∷ control_text conf.control ∷ []
 
 abbrev pub other_vlan_word : OtherVlan → List ℕ
 other_vlan_word Restricted = codes "restricted"
@@ -76,7 +77,8 @@ abbrev pub nas_words : Config → List (List ℕ)
 nas_words c = codes "nas" ∷ dotted c.nas.ip ∷ c.nas.name ∷ []
 
 abbrev pub server_words : Config → List (List ℕ)
-server_words c = codes "server" ∷ dotted c.server.ip ∷ decimal c.server.port ∷ encode_lower c.secret ∷ []
+server_words c =
+    codes "server" ∷ dotted c.server.ip ∷ decimal c.server.port ∷ encode_lower c.secret ∷ []
 
 abbrev pub first_lines : Config → List (List (List ℕ))
 first_lines c = bridge_words c ∷ nas_words c ∷ server_words c ∷ []
@@ -106,7 +108,8 @@ last_lines c =
 -- every setting, each once, in this order, and `begin`
 abbrev pub config_lines : Config → List (List (List ℕ))
 config_lines c =
-    first_lines c ++ map client_words c.clients ++ port_lines c.ports ++ time_lines c.times ++ last_lines c
+    first_lines c ++ map client_words c.clients ++ port_lines c.ports ++ time_lines c.times
+    ++ last_lines c
 
 abbrev pub config_text : Config → List ℕ
 config_text c = flat_map text_line (config_lines c)

@@ -82,7 +82,8 @@ socket_of words = two_of words
 
 -- an address of IPv4: four numbers with dots
 abbrev pub four_of : List (List ℕ) → Option (List ℕ)
-four_of (a ∷ b ∷ c ∷ d ∷ []) = all_of (number_in 0 255 a) (number_in 0 255 b) (number_in 0 255 c) (number_in 0 255 d)
+four_of (a ∷ b ∷ c ∷ d ∷ []) =
+    all_of (number_in 0 255 a) (number_in 0 255 b) (number_in 0 255 c) (number_in 0 255 d)
   where
     all_of : Option ℕ → Option ℕ → Option ℕ → Option ℕ → Option (List ℕ)
     all_of (Some a) (Some b) (Some c) (Some d) = Some (a ∷ b ∷ c ∷ d ∷ [])
@@ -103,7 +104,8 @@ hex_of word = if bytes_eq word (codes "-") then Some [] else decoded (decode_of 
 -- where there are so many of them
 abbrev pub sized : ℕ → ℕ → Option (List ℕ) → Option (List ℕ)
 sized least most None = None
-sized least most (Some octets) = if nat_le least (length octets) && nat_le (length octets) most then Some octets else None
+sized least most (Some octets) =
+    if nat_le least (length octets) && nat_le (length octets) most then Some octets else None
 
 abbrev pub hex_in : ℕ → ℕ → List ℕ → Option (List ℕ)
 hex_in least most word = sized least most (hex_of word)

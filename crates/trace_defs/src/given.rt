@@ -1,5 +1,6 @@
-// The settings that are given once, in the order of their bits in the number of those that were given. It is the order in
-// which they came into the language, and not the one in which they are printed.
+// The settings that are given once, in the order of their bits in the number of those that were
+// given. It is the order in which they came into the language, and not the one in which they are
+// printed.
 
 /// `bridge`
 pub const BRIDGE: u32 = 0;

@@ -1,5 +1,6 @@
-//! A trace as definitions: its lines, the reasons to refuse one, its phases and what is printed for it. They stand in
-//! specs/; here are the words that a line begins with, the limits, and what a line is once it is read.
+//! A trace as definitions: its lines, the reasons to refuse one, its phases and what is printed for
+//! it. They stand in specs/; here are the words that a line begins with, the limits, and what a
+//! line is once it is read.
 #![tactic(auto)]
 
 mod given;

@@ -1,6 +1,6 @@
 // The limits of a trace.
 
-/// How many octets a line may have, without its line feed and without one carriage return at its end.
+/// How many octets a line may have, without its line feed and one carriage return at its end.
 pub const MOST_LINE_OCTETS: usize = 10_240;
 
 /// How many octets a frame may have.

@@ -1,5 +1,6 @@
-// The reasons to refuse a line that is not blank, in the order in which they are looked for. Those for a word that writes
-// no number, no octets or no name are looked for word by word, from left to right.
+// The reasons to refuse a line that is not blank, in the order in which they are looked for. Those
+// for a word that writes no number, no octets or no name are looked for word by word, from left to
+// right.
 
 /// More than 10,240 octets.
 pub const LONG: u8 = 1;

@@ -42,8 +42,10 @@ Sets wanted old given new given' (Ok Setting) = wanted ≡ Ok (IsSetting new giv
 Sets wanted old given new given' (Ok Blank) = (wanted ≡ Ok IsBlank) × AreKept old given new given'
 Sets wanted old given new given' (Ok Begin) = (wanted ≡ Ok IsBegin) × AreKept old given new given'
 Sets wanted old given new given' (Ok Sync) = (wanted ≡ Ok IsSync) × AreKept old given new given'
-Sets wanted old given new given' (Ok (Control lane what)) = (wanted ≡ Ok (Entry (ControlEntry lane (event_of what)))) × AreKept old given new given'
-Sets wanted old given new given' (Ok (Data port octets)) = (wanted ≡ Ok (Entry (DataEntry port octets))) × AreKept old given new given'
+Sets wanted old given new given' (Ok (Control lane what)) =
+    (wanted ≡ Ok (Entry (ControlEntry lane (event_of what)))) × AreKept old given new given'
+Sets wanted old given new given' (Ok (Data port octets)) =
+    (wanted ≡ Ok (Entry (DataEntry port octets))) × AreKept old given new given'
 Sets wanted old given new given' (Err (Bad why)) = (wanted ≡ Err why) × AreKept old given new given'
 Sets wanted old given new given' (Err NoMemory) = AreKept old given new given'
 

@@ -16,5 +16,5 @@ mod words;
 
 pub use line::{LineErr, read_line};
 pub use lines::{Lines, lines_of};
-pub use switch_event::{Config, Event, PortConf};
+pub use switch_event::{Config, Control, Decided, Decision, Drop9, Event, Outcome, PortConf};
 pub use trace_defs::{Line, Octets, Record};

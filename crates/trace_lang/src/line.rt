@@ -21,7 +21,8 @@ use trace_defs::{Keyword, LANE, LONG, Line, MOST_LINE_OCTETS, OCTET, PLACE, WORD
 /// Why a line is not read.
 #[derive(Clone, Copy, Debug, PartialEq, Eq, thiserror::Error)]
 pub enum LineErr {
-    /// It is refused for the first of the reasons of `trace_defs` that applies, `LONG` to `UNBUILT`.
+    /// It is refused for the first of the reasons of `trace_defs` that applies, `LONG` to
+    /// `UNBUILT`.
     #[error("the line is refused for reason {why}")]
     Bad { why: u8 },
     /// There is no memory for its octets.
@@ -37,9 +38,10 @@ impl From<AllocError> for LineErr {
     }
 }
 
-/// What a line means, without its line feed. A setting is put into `c` and noted in `given`, by its bit (`BRIDGE` to
-/// `REQUIRE_MA` of `trace_defs`); after any other line, and after a refusal, both are as before. `begun` tells whether
-/// the settings are ended. Settings that were read are valid at `begin`.
+/// What a line means, without its line feed. A setting is put into `c` and noted in `given`, by its
+/// bit (`BRIDGE` to `REQUIRE_MA` of `trace_defs`); after any other line, and after a refusal, both
+/// are as before. `begun` tells whether the settings are ended. Settings that were read are valid
+/// at `begin`.
 pub fn read_line(
     alloc: Global,
     c: &mut Config,
@@ -48,10 +50,12 @@ pub fn read_line(
     line: &[u8],
 ) -> Result<Line, LineErr>
     requires ports { are_ports c.old.ports ≡ true }
-    ensures reads { Sets (defined.line_of c.old given.old begun line.now) c.old given.old c.new given.new result }
+    ensures reads { Sets (defined.line_of c.old given.old begun line.now)
+        c.old given.old c.new given.new result }
     ensures ports { are_ports c.new.ports ≡ true }
     ensures place { IfOk result (IsInPlace begun) }
-    ensures valid { (room : ℕ) (lines : List (List ℕ)) (p : Progress) → read_lines room (start empty) lines ≡ Going p → p.config ≡ c.old → p.given ≡ given.old
+    ensures valid { (room : ℕ) (lines : List (List ℕ)) (p : Progress)
+        → read_lines room (start empty) lines ≡ Going p → p.config ≡ c.old → p.given ≡ given.old
         → IfOk result (IsValidAtBegin c.new) }
 {
     read_any(alloc, c, given, begun, line)
@@ -65,7 +69,8 @@ fn read_any(
     line: &[u8],
 ) -> Result<Line, LineErr>
     requires ports { are_ports c.old.ports ≡ true }
-    ensures reads { Sets (defined.line_of c.old given.old begun line.now) c.old given.old c.new given.new result }
+    ensures reads { Sets (defined.line_of c.old given.old begun line.now)
+        c.old given.old c.new given.new result }
     ensures ports { are_ports c.new.ports ≡ true }
     ensures place { IfOk result (IsInPlace begun) }
 {
@@ -89,7 +94,9 @@ fn read_words(
     rest: &[u8],
 ) -> Result<Line, LineErr>
     requires ports { are_ports c.old.ports ≡ true }
-    ensures reads { Sets (defined.words_line c.old given.old begun text.now (word.now ∷ words rest.now)) c.old given.old c.new given.new result }
+    ensures reads { Sets
+        (defined.words_line c.old given.old begun text.now (word.now ∷ words rest.now))
+        c.old given.old c.new given.new result }
     ensures ports { are_ports c.new.ports ≡ true }
     ensures place { IfOk result (IsInPlace begun) }
 {

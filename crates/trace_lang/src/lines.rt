@@ -9,13 +9,13 @@ use std::alloc::{AllocError, Global};
 use std::marker::Model;
 use trace_defs::Octets;
 
-// A line that may be read has at most 10,240 octets and a carriage return. One octet more stands for the rest of a longer
-// one.
+// A line that may be read has at most 10,240 octets and a carriage return. One octet more stands
+// for the rest of a longer one.
 const MOST_KEPT: usize = 10_242;
 
-/// The beginning of one line of a trace, and whether a line feed has ended it. However long the line is, what is kept of
-/// it has at most 10,242 octets and is read as the line. Contracts see the octets that are kept and whether the line has
-/// ended.
+/// The beginning of one line of a trace, and whether a line feed has ended it. However long the
+/// line is, what is kept of it has at most 10,242 octets and is read as the line. Contracts see the
+/// octets that are kept and whether the line has ended.
 #[derive(Drop)]
 pub struct Lines {
     text: Vec<u8>,
@@ -34,7 +34,8 @@ impl Model for Lines {
 }
 
 impl Lines {
-    /// Begins the first line. Only this call takes memory: 10,242 octets. `AllocError`: there is none.
+    /// Begins the first line. Only this call takes memory: 10,242 octets. `AllocError`: there
+    /// is none.
     pub fn open(alloc: Global) -> Result<Lines, AllocError>
         ensures { IfOk result (λ lines. lines ≡ record { text = []; ended = false }) }
     {
@@ -44,12 +45,14 @@ impl Lines {
         })
     }
 
-    /// Takes the octets of a piece of text up to its first line feed, which ends the line, and answers how many they are
-    /// with it. None exactly where the piece has no line feed, and then all of it was taken. The line must not have ended.
+    /// Takes the octets of a piece of text up to its first line feed, which ends the line, and
+    /// answers how many they are with it. None exactly where the piece has no line feed, and then
+    /// all of it was taken. The line must not have ended.
     #[inline]
     pub fn feed(&mut self, piece: &[u8]) -> Option<usize>
         requires { self.old.ended ≡ false }
-        ensures text { (line : List ℕ) → ReadAlike self.old.text line → ReadAlike self.new.text (line ++ before_first is_line_feed piece.now) }
+        ensures text { (line : List ℕ) → ReadAlike self.old.text line
+            → ReadAlike self.new.text (line ++ before_first is_line_feed piece.now) }
         ensures ended { self.new.ended ≡ is_some result }
         ensures count { result ≡ len_to_feed piece.now }
         ensures within { IfSome result (λ n. (0 < n) × (n ≤ length piece.now)) }
@@ -70,7 +73,8 @@ impl Lines {
     /// What is kept of the line, without its line feed. It is read as the whole line.
     pub fn line(&self) -> &[u8]
         ensures value { result.now ≡ self.now.text }
-        ensures reads { (config : Config) (given : ℕ) (begun : Bool) (line : List ℕ) → ReadAlike self.now.text line
+        ensures reads { (config : Config) (given : ℕ) (begun : Bool) (line : List ℕ)
+            → ReadAlike self.now.text line
             → line_of config given begun result.now ≡ line_of config given begun line }
     {
         &self.text
@@ -84,8 +88,9 @@ impl Lines {
         self.ended = false;
     }
 
-    /// Takes a whole piece of text, and appends what is kept of each line that the piece ends. The last line must not have
-    /// ended. `AllocError`: there is no memory for a line; what was taken by then stays.
+    /// Takes a whole piece of text, and appends what is kept of each line that the piece ends. The
+    /// last line must not have ended. `AllocError`: there is no memory for a line; what was taken
+    /// by then stays.
     pub fn feed_all(
         &mut self,
         alloc: Global,
@@ -94,7 +99,8 @@ impl Lines {
     ) -> Result<(), AllocError>
         requires { self.old.ended ≡ false }
         ensures begun { OnOk result (self.new.ended ≡ false) }
-        ensures lines { (fed : List ℕ) → IsFed fed seen.old.items self.old.text → OnOk result (IsFed (fed ++ piece.now) seen.new.items self.new.text) }
+        ensures lines { (fed : List ℕ) → IsFed fed seen.old.items self.old.text
+            → OnOk result (IsFed (fed ++ piece.now) seen.new.items self.new.text) }
     {
         let mut rest = piece;
         while let Some(taken) = self.feed(rest) {
@@ -106,7 +112,8 @@ impl Lines {
     }
 
     fn append(&mut self, octets: &[u8])
-        ensures text { (line : List ℕ) → ReadAlike self.old.text line → ReadAlike self.new.text (line ++ octets.now) }
+        ensures text { (line : List ℕ) → ReadAlike self.old.text line
+            → ReadAlike self.new.text (line ++ octets.now) }
         ensures ended { self.new.ended ≡ self.old.ended }
     {
         for octet in octets {
@@ -116,7 +123,8 @@ impl Lines {
 
     // Where there is no room, the last octet comes to stand for one more.
     fn push(&mut self, octet: u8)
-        ensures text { (line : List ℕ) → ReadAlike self.old.text line → ReadAlike self.new.text (line ++ octet ∷ []) }
+        ensures text { (line : List ℕ) → ReadAlike self.old.text line
+            → ReadAlike self.new.text (line ++ octet ∷ []) }
         ensures ended { self.new.ended ≡ self.old.ended }
     {
         if self.text.len() < MOST_KEPT {
@@ -127,10 +135,12 @@ impl Lines {
     }
 }
 
-/// What is kept of each line of a text that comes in pieces, however it is cut: `read_line` answers for each what it answers
-/// for the line. What follows the last line feed is a line where it holds an octet. `AllocError`: there is no memory.
+/// What is kept of each line of a text that comes in pieces, however it is cut: `read_line` answers
+/// for each what it answers for the line. What follows the last line feed is a line where it holds
+/// an octet. `AllocError`: there is no memory.
 pub fn lines_of(alloc: Global, pieces: &[&[u8]]) -> Result<Vec<Octets>, AllocError>
-    ensures { IfOk result (λ lines. AreReadAlike lines.items (all_lines (flat_map (λ piece. piece.now) pieces.now))) }
+    ensures { IfOk result (λ lines.
+        AreReadAlike lines.items (all_lines (flat_map (λ piece. piece.now) pieces.now))) }
 {
     let mut lines = Lines::open(alloc)?;
     let mut seen = Vec::new(alloc);
@@ -150,8 +160,8 @@ fn feed_at(piece: &[u8]) -> Option<usize>
     piece.iter().position(|octet| *octet == b'\n')
 }
 
-// The octet that stands for the rest of a line, with one more. Only spaces and then a carriage return at the very end
-// leave a rest blank.
+// The octet that stands for the rest of a line, with one more. Only spaces and then a carriage
+// return at the very end leave a rest blank.
 fn standing_for(last: u8, octet: u8) -> u8
     ensures { result ≡ stand_in_with last octet }
 {

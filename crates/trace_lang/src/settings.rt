@@ -29,7 +29,8 @@ pub fn read_setting(
     rest: &[u8],
 ) -> Result<Line, LineErr>
     requires ports { are_ports c.old.ports ≡ true }
-    ensures reads { Sets (defined.setting_line c.old given.old word (words rest.now)) c.old given.old c.new given.new result }
+    ensures reads { Sets (defined.setting_line c.old given.old word (words rest.now))
+        c.old given.old c.new given.new result }
     ensures ports { are_ports c.new.ports ≡ true }
     ensures place { IfOk result (IsInPlace false) }
 {
@@ -63,7 +64,8 @@ fn note_once(given: &mut u32, setting: u32) -> Result<(), LineErr>
 
 // `bridge ADDRESS`
 fn read_bridge(c: &mut Config, given: &mut u32, rest: &[u8]) -> Result<Line, LineErr>
-    ensures reads { Sets (defined.bridge_line c.old given.old (words rest.now)) c.old given.old c.new given.new result }
+    ensures reads { Sets (defined.bridge_line c.old given.old (words rest.now))
+        c.old given.old c.new given.new result }
     ensures ports { c.new.ports ≡ c.old.ports }
     ensures place { IfOk result (IsInPlace false) }
 {
@@ -76,7 +78,8 @@ fn read_bridge(c: &mut Config, given: &mut u32, rest: &[u8]) -> Result<Line, Lin
 
 // `nas IP NAME`
 fn read_nas(c: &mut Config, given: &mut u32, rest: &[u8]) -> Result<Line, LineErr>
-    ensures reads { Sets (defined.nas_line c.old given.old (words rest.now)) c.old given.old c.new given.new result }
+    ensures reads { Sets (defined.nas_line c.old given.old (words rest.now))
+        c.old given.old c.new given.new result }
     ensures ports { c.new.ports ≡ c.old.ports }
     ensures place { IfOk result (IsInPlace false) }
 {
@@ -90,7 +93,8 @@ fn read_nas(c: &mut Config, given: &mut u32, rest: &[u8]) -> Result<Line, LineEr
 
 // `server IP PORT SECRET`
 fn read_server(c: &mut Config, given: &mut u32, rest: &[u8]) -> Result<Line, LineErr>
-    ensures reads { Sets (defined.server_line c.old given.old (words rest.now)) c.old given.old c.new given.new result }
+    ensures reads { Sets (defined.server_line c.old given.old (words rest.now))
+        c.old given.old c.new given.new result }
     ensures ports { c.new.ports ≡ c.old.ports }
     ensures place { IfOk result (IsInPlace false) }
 {
@@ -106,7 +110,8 @@ fn read_server(c: &mut Config, given: &mut u32, rest: &[u8]) -> Result<Line, Lin
 
 // `client IP SECRET`, for at most four clients
 fn read_client(c: &mut Config, given: u32, rest: &[u8]) -> Result<Line, LineErr>
-    ensures reads { Sets (defined.client_line c.old given (words rest.now)) c.old given c.new given result }
+    ensures reads { Sets (defined.client_line c.old given (words rest.now))
+        c.old given c.new given result }
     ensures ports { c.new.ports ≡ c.old.ports }
     ensures place { IfOk result (IsInPlace false) }
 {
@@ -124,7 +129,8 @@ fn read_client(c: &mut Config, given: u32, rest: &[u8]) -> Result<Line, LineErr>
 fn read_port(c: &mut Config, given: u32, rest: &[u8]) -> Result<Line, LineErr>
     requires ports { are_ports c.old.ports ≡ true }
     ensures ports { are_ports c.new.ports ≡ true }
-    ensures reads { Sets (defined.port_line c.old given (words rest.now)) c.old given c.new given result }
+    ensures reads { Sets (defined.port_line c.old given (words rest.now))
+        c.old given c.new given result }
     ensures place { IfOk result (IsInPlace false) }
 {
     let (port, native, control) = three_words(rest).ok_or(LineErr::Bad { why: COUNT })?;
@@ -148,7 +154,8 @@ fn read_port(c: &mut Config, given: u32, rest: &[u8]) -> Result<Line, LineErr>
 fn read_vlan(other: OtherVlan, c: &mut Config, given: u32, rest: &[u8]) -> Result<Line, LineErr>
     requires ports { are_ports c.old.ports ≡ true }
     ensures ports { are_ports c.new.ports ≡ true }
-    ensures reads { Sets (defined.vlan_line other c.old given (words rest.now)) c.old given c.new given result }
+    ensures reads { Sets (defined.vlan_line other c.old given (words rest.now))
+        c.old given c.new given result }
     ensures place { IfOk result (IsInPlace false) }
 {
     let (port, vlan) = two_words(rest).ok_or(LineErr::Bad { why: COUNT })?;
@@ -203,7 +210,8 @@ fn change_vlan(other: OtherVlan, port: u8, vlan: u16, p: &mut PortConf)
 
 // `set` and what is set.
 fn read_set(c: &mut Config, given: &mut u32, rest: &[u8]) -> Result<Line, LineErr>
-    ensures reads { Sets (defined.set_line c.old given.old (words rest.now)) c.old given.old c.new given.new result }
+    ensures reads { Sets (defined.set_line c.old given.old (words rest.now))
+        c.old given.old c.new given.new result }
     ensures ports { c.new.ports ≡ c.old.ports }
     ensures place { IfOk result (IsInPlace false) }
 {
@@ -219,7 +227,8 @@ fn read_timing(
     timing: Timing,
     word: &[u8],
 ) -> Result<Line, LineErr>
-    ensures reads { Sets (defined.timing_line c.old given.old timing word.now) c.old given.old c.new given.new result }
+    ensures reads { Sets (defined.timing_line c.old given.old timing word.now)
+        c.old given.old c.new given.new result }
     ensures ports { c.new.ports ≡ c.old.ports }
     ensures place { IfOk result (IsInPlace false) }
 {
@@ -237,7 +246,8 @@ fn read_timing(
 
 // `set quiet-period SECONDS`
 fn set_quiet_period(c: &mut Config, given: &mut u32, word: &[u8]) -> Result<Line, LineErr>
-    ensures reads { Sets (defined.timing_line c.old given.old QuietPeriod word.now) c.old given.old c.new given.new result }
+    ensures reads { Sets (defined.timing_line c.old given.old QuietPeriod word.now)
+        c.old given.old c.new given.new result }
     ensures ports { c.new.ports ≡ c.old.ports }
     ensures place { IfOk result (IsInPlace false) }
 {
@@ -249,7 +259,8 @@ fn set_quiet_period(c: &mut Config, given: &mut u32, word: &[u8]) -> Result<Line
 
 // `set server-timeout SECONDS`
 fn set_server_timeout(c: &mut Config, given: &mut u32, word: &[u8]) -> Result<Line, LineErr>
-    ensures reads { Sets (defined.timing_line c.old given.old ServerTimeout word.now) c.old given.old c.new given.new result }
+    ensures reads { Sets (defined.timing_line c.old given.old ServerTimeout word.now)
+        c.old given.old c.new given.new result }
     ensures ports { c.new.ports ≡ c.old.ports }
     ensures place { IfOk result (IsInPlace false) }
 {
@@ -261,7 +272,8 @@ fn set_server_timeout(c: &mut Config, given: &mut u32, word: &[u8]) -> Result<Li
 
 // `set reauth-max ATTEMPTS`
 fn set_reauth_max(c: &mut Config, given: &mut u32, word: &[u8]) -> Result<Line, LineErr>
-    ensures reads { Sets (defined.timing_line c.old given.old ReauthMax word.now) c.old given.old c.new given.new result }
+    ensures reads { Sets (defined.timing_line c.old given.old ReauthMax word.now)
+        c.old given.old c.new given.new result }
     ensures ports { c.new.ports ≡ c.old.ports }
     ensures place { IfOk result (IsInPlace false) }
 {
@@ -273,7 +285,8 @@ fn set_reauth_max(c: &mut Config, given: &mut u32, word: &[u8]) -> Result<Line, 
 
 // `set reauth-period SECONDS`
 fn set_reauth_period(c: &mut Config, given: &mut u32, word: &[u8]) -> Result<Line, LineErr>
-    ensures reads { Sets (defined.timing_line c.old given.old ReauthPeriod word.now) c.old given.old c.new given.new result }
+    ensures reads { Sets (defined.timing_line c.old given.old ReauthPeriod word.now)
+        c.old given.old c.new given.new result }
     ensures ports { c.new.ports ≡ c.old.ports }
     ensures place { IfOk result (IsInPlace false) }
 {
@@ -285,7 +298,8 @@ fn set_reauth_period(c: &mut Config, given: &mut u32, word: &[u8]) -> Result<Lin
 
 // `set reauth on` and `set reauth off`
 fn set_reauth(c: &mut Config, given: &mut u32, word: &[u8]) -> Result<Line, LineErr>
-    ensures reads { Sets (defined.timing_line c.old given.old Reauth word.now) c.old given.old c.new given.new result }
+    ensures reads { Sets (defined.timing_line c.old given.old Reauth word.now)
+        c.old given.old c.new given.new result }
     ensures ports { c.new.ports ≡ c.old.ports }
     ensures place { IfOk result (IsInPlace false) }
 {
@@ -297,7 +311,8 @@ fn set_reauth(c: &mut Config, given: &mut u32, word: &[u8]) -> Result<Line, Line
 
 // `set guest-wait SECONDS`
 fn set_guest_wait(c: &mut Config, given: &mut u32, word: &[u8]) -> Result<Line, LineErr>
-    ensures reads { Sets (defined.timing_line c.old given.old GuestWait word.now) c.old given.old c.new given.new result }
+    ensures reads { Sets (defined.timing_line c.old given.old GuestWait word.now)
+        c.old given.old c.new given.new result }
     ensures ports { c.new.ports ≡ c.old.ports }
     ensures place { IfOk result (IsInPlace false) }
 {
@@ -309,7 +324,8 @@ fn set_guest_wait(c: &mut Config, given: &mut u32, word: &[u8]) -> Result<Line, 
 
 // `set dyn-window SECONDS`
 fn set_dyn_window(c: &mut Config, given: &mut u32, word: &[u8]) -> Result<Line, LineErr>
-    ensures reads { Sets (defined.timing_line c.old given.old DynWindow word.now) c.old given.old c.new given.new result }
+    ensures reads { Sets (defined.timing_line c.old given.old DynWindow word.now)
+        c.old given.old c.new given.new result }
     ensures ports { c.new.ports ≡ c.old.ports }
     ensures place { IfOk result (IsInPlace false) }
 {
@@ -321,7 +337,8 @@ fn set_dyn_window(c: &mut Config, given: &mut u32, word: &[u8]) -> Result<Line, 
 
 // `set require-ma on` and `set require-ma off`
 fn set_require_ma(c: &mut Config, given: &mut u32, word: &[u8]) -> Result<Line, LineErr>
-    ensures reads { Sets (defined.timing_line c.old given.old RequireMa word.now) c.old given.old c.new given.new result }
+    ensures reads { Sets (defined.timing_line c.old given.old RequireMa word.now)
+        c.old given.old c.new given.new result }
     ensures ports { c.new.ports ≡ c.old.ports }
     ensures place { IfOk result (IsInPlace false) }
 {
@@ -333,7 +350,8 @@ fn set_require_ma(c: &mut Config, given: &mut u32, word: &[u8]) -> Result<Line, 
 
 // `clock SECONDS`
 fn read_clock(c: &mut Config, given: &mut u32, rest: &[u8]) -> Result<Line, LineErr>
-    ensures reads { Sets (defined.clock_line c.old given.old (words rest.now)) c.old given.old c.new given.new result }
+    ensures reads { Sets (defined.clock_line c.old given.old (words rest.now))
+        c.old given.old c.new given.new result }
     ensures ports { c.new.ports ≡ c.old.ports }
     ensures place { IfOk result (IsInPlace false) }
 {
@@ -346,7 +364,8 @@ fn read_clock(c: &mut Config, given: &mut u32, rest: &[u8]) -> Result<Line, Line
 
 // `seed OCTETS`
 fn read_seed(c: &mut Config, given: &mut u32, rest: &[u8]) -> Result<Line, LineErr>
-    ensures reads { Sets (defined.seed_line c.old given.old (words rest.now)) c.old given.old c.new given.new result }
+    ensures reads { Sets (defined.seed_line c.old given.old (words rest.now))
+        c.old given.old c.new given.new result }
     ensures ports { c.new.ports ≡ c.old.ports }
     ensures place { IfOk result (IsInPlace false) }
 {

@@ -1,7 +1,8 @@
 // The values that words write.
 ghost use Rattle.std.specs.Prelude.{◌≡◌, ◌≤◌, IfSome, MatchOption, ◌<◌, ◌∷◌, [], Option, Some, None, Ok, length};
 ghost use Rattle.wire_defs.specs.Number.{number_in};
-ghost use Rattle.trace_defs.specs.Word.{address_of, four_of, hex_of, hex_in, name_of as name_of_lem, control_of, link_of, switch_of};
+ghost use Rattle.trace_defs.specs.Word as defined;
+ghost use Rattle.trace_defs.specs.Word.{address_of, four_of, hex_of, hex_in, control_of, link_of, switch_of};
 ghost use Rattle.trace_lang.specs.Meaning.{Decodes};
 ghost use Rattle.trace_lang.specs.declared.line.LineErr.TheVariants.{NoMemory};
 
@@ -127,7 +128,8 @@ pub fn thirty_two_octets(text: &[u8]) -> Option<[u8; 32]>
 
 /// The octets of a word of hexadecimal digits, where there are 1 to 64.
 pub fn secret_of(text: &[u8]) -> Option<ArrayVec<u8, 64>>
-    ensures { MatchOption result (hex_in 1 64 text.now ≡ None) (λ secret. hex_in 1 64 text.now ≡ Some secret.items) }
+    ensures { MatchOption result (hex_in 1 64 text.now ≡ None)
+        (λ secret. hex_in 1 64 text.now ≡ Some secret.items) }
 {
     let count = text.len() / 2;
     if count == 0 || count > 64 {
@@ -143,7 +145,8 @@ pub fn secret_of(text: &[u8]) -> Option<ArrayVec<u8, 64>>
 
 /// A name of at most 32 octets.
 pub fn name_of(text: &[u8]) -> Option<ArrayVec<u8, 32>>
-    ensures { MatchOption result (name_of_lem text.now ≡ None) (λ name. name_of_lem text.now ≡ Some name.items) }
+    ensures { MatchOption result (defined.name_of text.now ≡ None)
+        (λ name. defined.name_of text.now ≡ Some name.items) }
 {
     ArrayVec::try_from(text).ok()
 }

@@ -9,7 +9,8 @@ const SPACE: u8 = b' ';
 
 /// The first word of a text, and what follows it.
 pub fn first_word(text: &[u8]) -> Option<(&[u8], &[u8])>
-    ensures { MatchOption result (words text.now ≡ []) (λ found. words text.now ≡ found.0.now ∷ words found.1.now) }
+    ensures { MatchOption result (words text.now ≡ [])
+        (λ found. words text.now ≡ found.0.now ∷ words found.1.now) }
 {
     let rest = skip_spaces(text);
     if rest.is_empty() {
@@ -21,7 +22,8 @@ pub fn first_word(text: &[u8]) -> Option<(&[u8], &[u8])>
 
 /// The word of a text that has one.
 pub fn one_word(text: &[u8]) -> Option<&[u8]>
-    ensures { MatchOption result (one_of (words text.now) ≡ None) (λ found. one_of (words text.now) ≡ Some found.now) }
+    ensures { MatchOption result (one_of (words text.now) ≡ None)
+        (λ found. one_of (words text.now) ≡ Some found.now) }
 {
     let (word, rest) = first_word(text)?;
     if first_word(rest).is_some() {
@@ -32,7 +34,8 @@ pub fn one_word(text: &[u8]) -> Option<&[u8]>
 
 /// The words of a text that has two.
 pub fn two_words(text: &[u8]) -> Option<(&[u8], &[u8])>
-    ensures { MatchOption result (two_of (words text.now) ≡ None) (λ found. two_of (words text.now) ≡ Some (found.0.now, found.1.now)) }
+    ensures { MatchOption result (two_of (words text.now) ≡ None)
+        (λ found. two_of (words text.now) ≡ Some (found.0.now, found.1.now)) }
 {
     let (first, rest) = first_word(text)?;
     let (second, rest) = first_word(rest)?;
@@ -58,7 +61,8 @@ pub fn three_words(text: &[u8]) -> Option<(&[u8], &[u8], &[u8])>
 
 /// The words of a text that has two, or `0` and the word of a text that has one.
 pub fn socket_words(text: &[u8]) -> Option<(&[u8], &[u8])>
-    ensures { MatchOption result (socket_of (words text.now) ≡ None) (λ found. socket_of (words text.now) ≡ Some (found.0.now, found.1.now)) }
+    ensures { MatchOption result (socket_of (words text.now) ≡ None)
+        (λ found. socket_of (words text.now) ≡ Some (found.0.now, found.1.now)) }
 {
     let (first, rest) = first_word(text)?;
     let Some((second, rest)) = first_word(rest) else {
@@ -73,7 +77,8 @@ pub fn socket_words(text: &[u8]) -> Option<(&[u8], &[u8])>
 /// The part of a word before its first full stop, and what follows that.
 pub fn cut_at_stop(text: &[u8]) -> Option<(&[u8], &[u8])>
     ensures { MatchOption result (slice_split (λ octet. octet == 46) text.now ≡ text.now ∷ [])
-        (λ found. slice_split (λ octet. octet == 46) text.now ≡ found.0.now ∷ slice_split (λ octet. octet == 46) found.1.now) }
+        (λ found. slice_split (λ octet. octet == 46) text.now
+        ≡ found.0.now ∷ slice_split (λ octet. octet == 46) found.1.now) }
 {
     let end = part_len(text, b'.');
     if end == text.len() {

@@ -19,16 +19,20 @@ piece_text (Address ip) = dotted ip
 abbrev pub times_text : Times → List ℕ
 times_text times =
     concat (
-    codes "set quiet-period " ∷ decimal times.quiet ∷ (10 ∷ codes "set server-timeout ") ∷ decimal times.server
+    codes "set quiet-period " ∷ decimal times.quiet ∷ (10 ∷ codes "set server-timeout ")
+    ∷ decimal times.server
     ∷ (10 ∷ codes "set reauth-max ") ∷ decimal times.reauth_max ∷ (10 ∷ codes "set reauth-period ")
-    ∷ decimal times.reauth_period ∷ (10 ∷ codes "set reauth ") ∷ switch_text times.reauth ∷ (10 ∷ []) ∷ []
+    ∷ decimal times.reauth_period ∷ (10 ∷ codes "set reauth ") ∷ switch_text times.reauth
+    ∷ (10 ∷ []) ∷ []
     )
 
 -- the other settings, and `begin`
 abbrev pub last_text : Config → List ℕ
 last_text c =
     concat (
-    codes "set guest-wait " ∷ decimal c.guest_wait ∷ (10 ∷ codes "set dyn-window ") ∷ decimal c.window
-    ∷ (10 ∷ codes "set require-ma ") ∷ switch_text c.require_ma ∷ (10 ∷ codes "clock ") ∷ decimal c.clock
+    codes "set guest-wait " ∷ decimal c.guest_wait ∷ (10 ∷ codes "set dyn-window ")
+    ∷ decimal c.window
+    ∷ (10 ∷ codes "set require-ma ") ∷ switch_text c.require_ma ∷ (10 ∷ codes "clock ")
+    ∷ decimal c.clock
     ∷ (10 ∷ codes "seed ") ∷ encode_lower c.seed ∷ (10 ∷ codes "begin" ++ 10 ∷ []) ∷ []
     )

@@ -38,12 +38,16 @@ Appended old new P = (text : List ℕ) × (new ≡ old ++ text) × P text
 
 -- settings that were read, once their printed text is read: each was given
 abbrev pub printed_settings : Config → Progress
-printed_settings c = record (start c) { given = all_given; begun = true; lines = length (config_lines c) }
+printed_settings c =
+    record (start c) { given = all_given; begun = true; lines = length (config_lines c) }
 
 -- the text of settings reads as these settings
 abbrev pub ReadsAsSettings : Config → List ℕ → Type 0
-ReadsAsSettings c text = (room : ℕ) → read_lines room (start empty) (ended_lines text) ≡ Going (printed_settings c)
+ReadsAsSettings c text =
+    (room : ℕ) → read_lines room (start empty) (ended_lines text) ≡ Going (printed_settings c)
 
 -- the text is one line, which reads as this record
 abbrev pub ReadsAsRecord : Config → Entered → List ℕ → Type 0
-ReadsAsRecord config r text = (line : List ℕ) × (text ≡ line ++ 10 ∷ []) × ((given : ℕ) → line_of config given true line ≡ Ok (Entry r))
+ReadsAsRecord config r text =
+    (line : List ℕ) × (text ≡ line ++ 10 ∷ [])
+    × ((given : ℕ) → line_of config given true line ≡ Ok (Entry r))

@@ -28,8 +28,10 @@ records_of (Control lane what) = ControlEntry lane (event_of what) ∷ []
 records_of (Data port octets) = DataEntry port octets ∷ []
 records_of other = []
 
--- the phases that have ended, and the open one with the records that follow up to the next `sync`, and so on
-abbrev pub phases_after : (ended : List (List Entered)) → (current : List Entered) → List Line → List (List Entered)
+-- the phases that have ended, and the open one with the records that follow up to the next `sync`,
+-- and so on
+abbrev pub phases_after : (ended : List (List Entered)) → (current : List Entered) → List Line
+    → List (List Entered)
 phases_after ended current [] = ended ++ current ∷ []
 phases_after ended current (Sync ∷ lines) = phases_after (ended ++ current ∷ []) [] lines
 phases_after ended current (line ∷ lines) = phases_after ended (current ++ records_of line) lines
@@ -38,8 +40,10 @@ phases_after ended current (line ∷ lines) = phases_after ended (current ++ rec
 abbrev pub phases_of : List Line → List (List Entered)
 phases_of lines = phases_after [] [] lines
 
--- a text of at most so many octets and so many control records is a trace of these settings and of these phases
-pub record ReadsAsTrace (limit room : ℕ) (config : Config) (phases : List (List Entered)) (text : List ℕ) : Type 0 where
+-- a text of at most so many octets and so many control records is a trace of these settings and of
+-- these phases
+pub record ReadsAsTrace (limit room : ℕ) (config : Config) (phases : List (List Entered))
+    (text : List ℕ) : Type 0 where
   pub fated : fate limit room empty text ≡ 0
   pub settings : (progress_of (trace_of limit room empty text)).config ≡ config
   pub phases_are : whole limit room empty text ≡ phases

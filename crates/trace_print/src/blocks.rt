@@ -9,9 +9,9 @@ use out_tray::{Sent, Tray};
 use std::alloc::AllocError;
 use switch_event::{Decided, Decision, Outcome};
 
-/// Appends the block of control record `r`, from 1: its lane, 1 to 3, its serial, from 0, what became of it, and a line for each
-/// thing that was sent, in order. The outcome is one that [`crate::can_come`] has. Where there is no memory, `out` is as
-/// before.
+/// Appends the block of control record `r`, from 1: its lane, 1 to 3, its serial, from 0, what
+/// became of it, and a line for each thing that was sent, in order. The outcome is one that
+/// [`crate::can_come`] has. Where there is no memory, `out` is as before.
 pub fn print_control(
     r: u64,
     lane: u8,
@@ -22,7 +22,8 @@ pub fn print_control(
 ) -> Result<(), AllocError>
     requires lane { (1 ≤ lane) × (lane ≤ 3) }
     requires outcome { output.can_come o.now ≡ true }
-    ensures printed { OnOk result (out.new.items ≡ out.old.items ++ output.control_block r lane serial o.now tray.now.items) }
+    ensures printed { OnOk result (out.new.items ≡ out.old.items
+        ++ output.control_block r lane serial o.now tray.now.items) }
     ensures kept { OnErr result (out.new.items ≡ out.old.items) }
 {
     let start = out.len();
@@ -38,7 +39,8 @@ fn put_control(
     tray: &Tray,
     out: &mut Vec<u8>,
 ) -> Result<(), AllocError>
-    ensures printed { OnOk result (out.new.items ≡ out.old.items ++ output.control_block r lane serial o.now tray.now.items) }
+    ensures printed { OnOk result (out.new.items ≡ out.old.items
+        ++ output.control_block r lane serial o.now tray.now.items) }
     ensures begins { OnErr result (take (length out.old.items) out.new.items ≡ out.old.items) }
 {
     put_line(r, lane, serial, o, out)?;
@@ -47,7 +49,8 @@ fn put_control(
 
 // `c RECORD @LANE SERIAL OUTCOME`
 fn put_line(r: u64, lane: u8, serial: u64, o: &Outcome, out: &mut Vec<u8>) -> Result<(), AllocError>
-    ensures printed { OnOk result (out.new.items ≡ out.old.items ++ output.control_line r lane serial o.now) }
+    ensures printed { OnOk result (out.new.items ≡ out.old.items
+        ++ output.control_line r lane serial o.now) }
     ensures kept { OnErr result (out.new.items ≡ out.old.items) }
 {
     let (word, rest) = outcome_pieces(o);
@@ -69,7 +72,8 @@ fn put_line(r: u64, lane: u8, serial: u64, o: &Outcome, out: &mut Vec<u8>) -> Re
 }
 
 fn put_sent(tray: &Tray, out: &mut Vec<u8>) -> Result<(), AllocError>
-    ensures printed { OnOk result (out.new.items ≡ out.old.items ++ output.sent_lines tray.now.items) }
+    ensures printed { OnOk result (out.new.items ≡ out.old.items
+        ++ output.sent_lines tray.now.items) }
     ensures begins { OnErr result (take (length out.old.items) out.new.items ≡ out.old.items) }
 {
     for n in 0..tray.len() {
@@ -82,7 +86,8 @@ fn put_sent(tray: &Tray, out: &mut Vec<u8>) -> Result<(), AllocError>
 
 // `f PORT OCTETS`, `r OCTETS`, `r SOCKET OCTETS` or `y IP PORT OCTETS`
 fn put_one(sent: Sent<'_>, out: &mut Vec<u8>) -> Result<(), AllocError>
-    ensures printed { OnOk result (out.new.items ≡ out.old.items ++ output.sent_line (sent_of sent.entry)) }
+    ensures printed { OnOk result (out.new.items ≡ out.old.items
+        ++ output.sent_line (sent_of sent.entry)) }
     ensures kept { OnErr result (out.new.items ≡ out.old.items) }
 {
     match sent {
@@ -125,10 +130,12 @@ fn put_one(sent: Sent<'_>, out: &mut Vec<u8>) -> Result<(), AllocError>
     }
 }
 
-/// Appends the block of data record `r`, from 1: how many control events were before it, what was decided, and the tagged frame
-/// where it is forwarded. Where there is no memory, `out` is as before.
+/// Appends the block of data record `r`, from 1: how many control events were before it, what was
+/// decided, and the tagged frame where it is forwarded. Where there is no memory, `out` is as
+/// before.
 pub fn print_data(r: u64, d: &Decided, tagged: &[u8], out: &mut Vec<u8>) -> Result<(), AllocError>
-    ensures printed { OnOk result (out.new.items ≡ out.old.items ++ output.data_line r d.now.front d.now.decision tagged.now) }
+    ensures printed { OnOk result (out.new.items ≡ out.old.items
+        ++ output.data_line r d.now.front d.now.decision tagged.now) }
     ensures kept { OnErr result (out.new.items ≡ out.old.items) }
 {
     match d.decision {

@@ -58,7 +58,7 @@ pub fn outcome_pieces(o: &Outcome) -> (&'static [u8], Piece<'static>)
     }
 }
 
-/// Whether an event can have this outcome: the line at which something is dropped is one that has a name.
+/// Whether an event can have this outcome: the line at which something is dropped has a name.
 pub fn can_come(o: &Outcome) -> bool
     ensures { result ≡ output.can_come o.now }
 {

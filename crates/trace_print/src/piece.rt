@@ -36,7 +36,8 @@ pub fn hex_or_dash(octets: &[u8]) -> Piece<'_>
 
 /// Appends the parts, one after another. Where there is no memory, `out` is as before.
 pub fn put(pieces: &[Piece<'_>], out: &mut Vec<u8>) -> Result<(), AllocError>
-    ensures printed { OnOk result (out.new.items ≡ out.old.items ++ flat_map piece_text pieces.now) }
+    ensures printed { OnOk result (out.new.items ≡ out.old.items
+        ++ flat_map piece_text pieces.now) }
     ensures kept { OnErr result (out.new.items ≡ out.old.items) }
 {
     let start = out.len();
@@ -57,7 +58,8 @@ pub fn undo(start: usize, put: Result<(), AllocError>, out: &mut Vec<u8>) -> Res
 }
 
 fn put_each(pieces: &[Piece<'_>], out: &mut Vec<u8>) -> Result<(), AllocError>
-    ensures printed { OnOk result (out.new.items ≡ out.old.items ++ flat_map piece_text pieces.now) }
+    ensures printed { OnOk result (out.new.items ≡ out.old.items
+        ++ flat_map piece_text pieces.now) }
     ensures begins { OnErr result (take (length out.old.items) out.new.items ≡ out.old.items) }
 {
     for piece in pieces {
@@ -108,7 +110,8 @@ fn dotted(ip: &[u8; 4]) -> ArrayVec<u8, 15>
 }
 
 fn four_numbers(a: u8, b: u8, c: u8, d: u8) -> ArrayVec<u8, 15>
-    ensures { result.items ≡ concat (decimal a ∷ codes "." ∷ decimal b ∷ codes "." ∷ decimal c ∷ codes "." ∷ decimal d ∷ []) }
+    ensures { result.items ≡ concat (
+        decimal a ∷ codes "." ∷ decimal b ∷ codes "." ∷ decimal c ∷ codes "." ∷ decimal d ∷ []) }
 {
     let mut text = ArrayVec::new();
     push_number(a, &mut text);

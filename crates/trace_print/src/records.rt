@@ -13,14 +13,15 @@ use std::alloc::AllocError;
 use trace_defs::{Line, Record};
 use wire_core::Addr;
 
-/// Appends the line of a record with its line feed: a control event, with its lane, 1 to 3, where that is not 1, or a data
-/// frame. `Begin` and `Sync` give their words, a blank line is empty, and a setting gives nothing, since `print_config`
-/// prints it. A record that was read from a line reads back from what is appended. Where there is no memory, `out` is as
-/// before.
+/// Appends the line of a record with its line feed: a control event, with its lane, 1 to 3, where
+/// that is not 1, or a data frame. `Begin` and `Sync` give their words, a blank line is empty, and
+/// a setting gives nothing, since `print_config` prints it. A record that was read from a line
+/// reads back from what is appended. Where there is no memory, `out` is as before.
 pub fn print_line(l: &Line, out: &mut Vec<u8>) -> Result<(), AllocError>
     requires lane { HasLane l.now }
     ensures printed { OnOk result (out.new.items ≡ out.old.items ++ line_text l.now) }
-    ensures back { (config : Config) (given : ℕ) (line : List ℕ) (r : Entered) → record_of l.now ≡ Some r → line_of config given true line ≡ Ok (Entry r)
+    ensures back { (config : Config) (given : ℕ) (line : List ℕ) (r : Entered)
+        → record_of l.now ≡ Some r → line_of config given true line ≡ Ok (Entry r)
         → OnOk result (Appended out.old.items out.new.items (ReadsAsRecord config r)) }
     ensures kept { OnErr result (out.new.items ≡ out.old.items) }
 {
@@ -55,7 +56,8 @@ fn lane_mark(lane: u8) -> &'static [u8]
 }
 
 fn put_event(mark: &[u8], what: &Record, out: &mut Vec<u8>) -> Result<(), AllocError>
-    ensures printed { OnOk result (out.new.items ≡ out.old.items ++ (mark.now ++ defined.text_line (defined.event_words (event_of what.now)))) }
+    ensures printed { OnOk result (out.new.items ≡ out.old.items
+        ++ (mark.now ++ defined.text_line (defined.event_words (event_of what.now)))) }
     ensures kept { OnErr result (out.new.items ≡ out.old.items) }
 {
     match what {
@@ -77,7 +79,8 @@ fn put_frame<'a>(
     octets: &'a [u8],
     out: &mut Vec<u8>,
 ) -> Result<(), AllocError>
-    ensures printed { OnOk result (out.new.items ≡ out.old.items ++ (mark.now ++ defined.text_line (defined.frame_words port octets.now))) }
+    ensures printed { OnOk result (out.new.items ≡ out.old.items
+        ++ (mark.now ++ defined.text_line (defined.frame_words port octets.now))) }
     ensures kept { OnErr result (out.new.items ≡ out.old.items) }
 {
     put(
@@ -100,7 +103,8 @@ fn put_radius<'a>(
     octets: &'a [u8],
     out: &mut Vec<u8>,
 ) -> Result<(), AllocError>
-    ensures printed { OnOk result (out.new.items ≡ out.old.items ++ (mark.now ++ defined.text_line (defined.radius_words socket octets.now))) }
+    ensures printed { OnOk result (out.new.items ≡ out.old.items
+        ++ (mark.now ++ defined.text_line (defined.radius_words socket octets.now))) }
     ensures kept { OnErr result (out.new.items ≡ out.old.items) }
 {
     if socket == 0 {
@@ -134,7 +138,8 @@ fn put_dynamic<'a>(
     octets: &'a [u8],
     out: &mut Vec<u8>,
 ) -> Result<(), AllocError>
-    ensures printed { OnOk result (out.new.items ≡ out.old.items ++ (mark.now ++ defined.text_line (defined.dyn_words from octets.now))) }
+    ensures printed { OnOk result (out.new.items ≡ out.old.items
+        ++ (mark.now ++ defined.text_line (defined.dyn_words from octets.now))) }
     ensures kept { OnErr result (out.new.items ≡ out.old.items) }
 {
     put(
@@ -160,7 +165,8 @@ fn put_choice<'a>(
     choice: &'a [u8],
     out: &mut Vec<u8>,
 ) -> Result<(), AllocError>
-    ensures printed { OnOk result (out.new.items ≡ out.old.items ++ (mark.now ++ (word.now ++ defined.text_line (defined.choice_words port choice.now)))) }
+    ensures printed { OnOk result (out.new.items ≡ out.old.items
+        ++ (mark.now ++ (word.now ++ defined.text_line (defined.choice_words port choice.now)))) }
     ensures kept { OnErr result (out.new.items ≡ out.old.items) }
 {
     put(

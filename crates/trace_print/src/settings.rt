@@ -14,12 +14,14 @@ use std::alloc::AllocError;
 use switch_event::{Client, Config, PortConf};
 use trace_defs::OtherVlan;
 
-/// Appends every setting and `begin`: the clients and the ports in the order in which they were given, then the restricted
-/// VLANs and then the guest VLANs of the ports that have one. Settings that were read from a text read back from what is
-/// appended. Where there is no memory, `out` is as before.
+/// Appends every setting and `begin`: the clients and the ports in the order in which they were
+/// given, then the restricted VLANs and then the guest VLANs of the ports that have one. Settings
+/// that were read from a text read back from what is appended. Where there is no memory, `out` is
+/// as before.
 pub fn print_config(c: &Config, out: &mut Vec<u8>) -> Result<(), AllocError>
     ensures printed { OnOk result (out.new.items ≡ out.old.items ++ defined.config_text c.now) }
-    ensures back { (room : ℕ) (lines : List (List ℕ)) (p : Progress) → read_lines room (start empty) lines ≡ Going p → p.begun ≡ true → p.config ≡ c.now
+    ensures back { (room : ℕ) (lines : List (List ℕ)) (p : Progress)
+        → read_lines room (start empty) lines ≡ Going p → p.begun ≡ true → p.config ≡ c.now
         → OnOk result (Appended out.old.items out.new.items (ReadsAsSettings c.now)) }
     ensures kept { OnErr result (out.new.items ≡ out.old.items) }
 {
@@ -50,7 +52,8 @@ fn put_config(c: &Config, out: &mut Vec<u8>) -> Result<(), AllocError>
 
 // The settings before the clients.
 fn put_first(c: &Config, out: &mut Vec<u8>) -> Result<(), AllocError>
-    ensures printed { OnOk result (out.new.items ≡ out.old.items ++ flat_map defined.text_line (defined.first_lines c.now)) }
+    ensures printed { OnOk result (out.new.items ≡ out.old.items
+        ++ flat_map defined.text_line (defined.first_lines c.now)) }
     ensures begins { OnErr result (take (length out.old.items) out.new.items ≡ out.old.items) }
 {
     put_bridge(c, out)?;
@@ -59,7 +62,8 @@ fn put_first(c: &Config, out: &mut Vec<u8>) -> Result<(), AllocError>
 }
 
 fn put_bridge(c: &Config, out: &mut Vec<u8>) -> Result<(), AllocError>
-    ensures printed { OnOk result (out.new.items ≡ out.old.items ++ defined.text_line (defined.bridge_words c.now)) }
+    ensures printed { OnOk result (out.new.items ≡ out.old.items
+        ++ defined.text_line (defined.bridge_words c.now)) }
     ensures kept { OnErr result (out.new.items ≡ out.old.items) }
 {
     put(
@@ -73,7 +77,8 @@ fn put_bridge(c: &Config, out: &mut Vec<u8>) -> Result<(), AllocError>
 }
 
 fn put_nas(c: &Config, out: &mut Vec<u8>) -> Result<(), AllocError>
-    ensures printed { OnOk result (out.new.items ≡ out.old.items ++ defined.text_line (defined.nas_words c.now)) }
+    ensures printed { OnOk result (out.new.items ≡ out.old.items
+        ++ defined.text_line (defined.nas_words c.now)) }
     ensures kept { OnErr result (out.new.items ≡ out.old.items) }
 {
     put(
@@ -89,7 +94,8 @@ fn put_nas(c: &Config, out: &mut Vec<u8>) -> Result<(), AllocError>
 }
 
 fn put_server(c: &Config, out: &mut Vec<u8>) -> Result<(), AllocError>
-    ensures printed { OnOk result (out.new.items ≡ out.old.items ++ defined.text_line (defined.server_words c.now)) }
+    ensures printed { OnOk result (out.new.items ≡ out.old.items
+        ++ defined.text_line (defined.server_words c.now)) }
     ensures kept { OnErr result (out.new.items ≡ out.old.items) }
 {
     put(
@@ -107,7 +113,8 @@ fn put_server(c: &Config, out: &mut Vec<u8>) -> Result<(), AllocError>
 }
 
 fn put_clients(clients: &[Client], out: &mut Vec<u8>) -> Result<(), AllocError>
-    ensures printed { OnOk result (out.new.items ≡ out.old.items ++ flat_map (λ client. defined.text_line (defined.client_words client)) clients.now) }
+    ensures printed { OnOk result (out.new.items ≡ out.old.items
+        ++ flat_map (λ client. defined.text_line (defined.client_words client)) clients.now) }
     ensures begins { OnErr result (take (length out.old.items) out.new.items ≡ out.old.items) }
 {
     for client in clients {
@@ -117,7 +124,8 @@ fn put_clients(clients: &[Client], out: &mut Vec<u8>) -> Result<(), AllocError>
 }
 
 fn put_client(client: &Client, out: &mut Vec<u8>) -> Result<(), AllocError>
-    ensures printed { OnOk result (out.new.items ≡ out.old.items ++ defined.text_line (defined.client_words client.now)) }
+    ensures printed { OnOk result (out.new.items ≡ out.old.items
+        ++ defined.text_line (defined.client_words client.now)) }
     ensures kept { OnErr result (out.new.items ≡ out.old.items) }
 {
     put(
@@ -133,7 +141,8 @@ fn put_client(client: &Client, out: &mut Vec<u8>) -> Result<(), AllocError>
 }
 
 fn put_ports(ports: &[PortConf], out: &mut Vec<u8>) -> Result<(), AllocError>
-    ensures printed { OnOk result (out.new.items ≡ out.old.items ++ flat_map (λ conf. defined.text_line (defined.port_words conf)) ports.now) }
+    ensures printed { OnOk result (out.new.items ≡ out.old.items
+        ++ flat_map (λ conf. defined.text_line (defined.port_words conf)) ports.now) }
     ensures begins { OnErr result (take (length out.old.items) out.new.items ≡ out.old.items) }
 {
     for conf in ports {
@@ -143,7 +152,8 @@ fn put_ports(ports: &[PortConf], out: &mut Vec<u8>) -> Result<(), AllocError>
 }
 
 fn put_port(conf: &PortConf, out: &mut Vec<u8>) -> Result<(), AllocError>
-    ensures printed { OnOk result (out.new.items ≡ out.old.items ++ defined.text_line (defined.port_words conf.now)) }
+    ensures printed { OnOk result (out.new.items ≡ out.old.items
+        ++ defined.text_line (defined.port_words conf.now)) }
     ensures kept { OnErr result (out.new.items ≡ out.old.items) }
 {
     put(
@@ -161,7 +171,9 @@ fn put_port(conf: &PortConf, out: &mut Vec<u8>) -> Result<(), AllocError>
 }
 
 fn put_vlans(other: OtherVlan, ports: &[PortConf], out: &mut Vec<u8>) -> Result<(), AllocError>
-    ensures printed { OnOk result (out.new.items ≡ out.old.items ++ flat_map (λ conf. flat_map defined.text_line (defined.port_vlan_lines other conf)) ports.now) }
+    ensures printed { OnOk result (out.new.items ≡ out.old.items
+        ++ flat_map (λ conf. flat_map defined.text_line (defined.port_vlan_lines other conf))
+        ports.now) }
     ensures begins { OnErr result (take (length out.old.items) out.new.items ≡ out.old.items) }
 {
     for conf in ports {
@@ -172,7 +184,8 @@ fn put_vlans(other: OtherVlan, ports: &[PortConf], out: &mut Vec<u8>) -> Result<
 
 // The line of a VLAN of a port, where the port has one.
 fn put_vlan(other: OtherVlan, conf: &PortConf, out: &mut Vec<u8>) -> Result<(), AllocError>
-    ensures printed { OnOk result (out.new.items ≡ out.old.items ++ flat_map defined.text_line (defined.port_vlan_lines other conf.now)) }
+    ensures printed { OnOk result (out.new.items ≡ out.old.items
+        ++ flat_map defined.text_line (defined.port_vlan_lines other conf.now)) }
     ensures kept { OnErr result (out.new.items ≡ out.old.items) }
 {
     let vlan = match other {

@@ -5,7 +5,7 @@ use crate::{
 };
 use arrayvec::ArrayVec;
 use out_tray::Sent;
-use std::alloc::Global;
+use std::alloc::{AllocError, Global};
 use std::test::Fail;
 use switch_event::{Client, Control, PortConf};
 use trace_defs::{Octets, Record};
@@ -104,17 +104,17 @@ fn a_trace_prints_its_settings_and_then_its_phases(rt: HostRuntime) -> Result<()
     Ok(())
 }
 
-fn octets(alloc: Global, octets: &[u8]) -> Result<Octets, std::alloc::AllocError> {
+fn octets(alloc: Global, octets: &[u8]) -> Result<Octets, AllocError> {
     Octets::of(alloc, octets)
 }
 
-#[test]
-fn records_print_without_lane_1_and_socket_0(rt: HostRuntime) -> Result<(), Fail> {
+// Control events in their lanes, and how they print.
+fn control_lines(alloc: Global) -> Result<[(u8, Record, &'static str); 8], AllocError> {
     let from = Addr {
         ip: [192, 0, 2, 30],
         port: 3799,
     };
-    let rows = [
+    Ok([
         (1, Record::Second, "tick\n"),
         (2, Record::Second, "@2 tick\n"),
         (
@@ -137,7 +137,7 @@ fn records_print_without_lane_1_and_socket_0(rt: HostRuntime) -> Result<(), Fail
             2,
             Record::Frame {
                 port: 1,
-                octets: octets(rt.alloc(), &[0xff, 0])?,
+                octets: octets(alloc, &[0xff, 0])?,
             },
             "@2 frame 1 ff00\n",
         ),
@@ -145,7 +145,7 @@ fn records_print_without_lane_1_and_socket_0(rt: HostRuntime) -> Result<(), Fail
             1,
             Record::Radius {
                 socket: 0,
-                octets: octets(rt.alloc(), &[])?,
+                octets: octets(alloc, &[])?,
             },
             "radius -\n",
         ),
@@ -153,7 +153,7 @@ fn records_print_without_lane_1_and_socket_0(rt: HostRuntime) -> Result<(), Fail
             3,
             Record::Radius {
                 socket: 4,
-                octets: octets(rt.alloc(), &[10])?,
+                octets: octets(alloc, &[10])?,
             },
             "@3 radius 4 0a\n",
         ),
@@ -161,12 +161,16 @@ fn records_print_without_lane_1_and_socket_0(rt: HostRuntime) -> Result<(), Fail
             1,
             Record::Dynamic {
                 from,
-                octets: octets(rt.alloc(), &[1])?,
+                octets: octets(alloc, &[1])?,
             },
             "dyn 192.0.2.30 3799 01\n",
         ),
-    ];
-    for (lane, what, printed) in rows {
+    ])
+}
+
+#[test]
+fn records_print_without_lane_1_and_socket_0(rt: HostRuntime) -> Result<(), Fail> {
+    for (lane, what, printed) in control_lines(rt.alloc())? {
         let mut out = Vec::new(rt.alloc());
         assert!(rt; lane >= 1 && lane <= 3);
         print_line(&Line::Control { lane, what }, &mut out)?;

@@ -11,14 +11,16 @@ use std::alloc::AllocError;
 use switch_event::Config;
 use trace_defs::Line;
 
-/// Appends a whole trace: the settings and `begin`, and then the records and the ends of phases among `lines`, in order.
-/// The other lines give nothing: settings are printed before, and a blank line means nothing. The lane of a control event
-/// is 1 to 3. A trace that was read from a text reads back from what is appended, where that is within the limit: the
-/// same settings, and the same records in the same phases. `AllocError`: there is no memory, and `out` is as before.
+/// Appends a whole trace: the settings and `begin`, and then the records and the ends of phases
+/// among `lines`, in order. The other lines give nothing: settings are printed before, and a blank
+/// line means nothing. The lane of a control event is 1 to 3. A trace that was read from a text
+/// reads back from what is appended, where that is within the limit: the same settings, and the
+/// same records in the same phases. `AllocError`: there is no memory, and `out` is as before.
 pub fn print_trace(c: &Config, lines: &[Line], out: &mut Vec<u8>) -> Result<(), AllocError>
     requires lanes { All HasLane lines.now }
     ensures printed { OnOk result (out.new.items ≡ out.old.items ++ trace_text c.now lines.now) }
-    ensures back { (limit room : ℕ) (text : List ℕ) → ReadsAsTrace limit room c.now (phases_of lines.now) text
+    ensures back { (limit room : ℕ) (text : List ℕ)
+        → ReadsAsTrace limit room c.now (phases_of lines.now) text
         → OnOk result (Appended out.old.items out.new.items (λ printed.
         length printed ≤ limit → ReadsAsTrace limit room c.now (phases_of lines.now) printed)) }
     ensures kept { OnErr result (out.new.items ≡ out.old.items) }
