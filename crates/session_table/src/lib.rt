@@ -5,7 +5,7 @@
 mod port;
 mod slots;
 
-pub use slots::{PortFull, Slots};
+pub use slots::{CopyFrom, PortFull, Slots};
 
 #[cfg(test)]
 mod tests;

@@ -22,6 +22,19 @@ const PLACES: usize = 960;
 #[derive(Clone, Copy, Debug, PartialEq, Eq)]
 pub struct PortFull;
 
+/// A value that can be made equal to another in its place. No call takes memory.
+pub trait CopyFrom {
+    ghost use Rattle.std.specs.Prelude.{◌≡◌};
+
+    /// A value that is equal to this one.
+    fn copied(&self) -> Self
+        ensures { result ≡ self.now };
+
+    /// Makes this equal to another.
+    fn copy_from(&mut self, other: &Self)
+        ensures { self.new ≡ other.now };
+}
+
 /// What is held for hosts, each at a place of its port, in the order in which they came: the list
 /// of entries, the oldest first. Places 0 to 15 are of port 1, 16 to 31 of port 2, up to 959.
 #[derive(Drop)]
@@ -184,7 +197,7 @@ impl<T: Drop> Slots<T> {
     }
 }
 
-impl<T: Copy> Slots<T> {
+impl<T: CopyFrom + Drop> Slots<T> {
     /// From now on holds what another table does, at the same places and in the same order. It takes
     /// no memory.
     pub fn copy_from(&mut self, other: &Slots<T>)
@@ -193,10 +206,32 @@ impl<T: Copy> Slots<T> {
         self.hosts
             .as_mut_slice()
             .copy_from_slice(other.hosts.as_slice());
-        self.values
-            .as_mut_slice()
-            .copy_from_slice(other.values.as_slice());
+        copy_values(self.values.as_mut_slice(), other.values.as_slice());
         copy_order(&mut self.order, other.order.as_slice());
+    }
+}
+
+// From now on they are the other values.
+fn copy_values<T: CopyFrom + Drop>(values: &mut [Option<T>], other: &[Option<T>])
+    requires places { length values.old ≡ 960 }
+    requires others { length other.now ≡ 960 }
+    ensures { values.new ≡ other.now }
+{
+    for at in 0..PLACES {
+        copy_value(&mut values[at], &other[at]);
+    }
+}
+
+// From now on it is the other value, or none.
+fn copy_value<T: CopyFrom + Drop>(value: &mut Option<T>, other: &Option<T>)
+    ensures { value.new ≡ other.now }
+{
+    match other {
+        Some(other) => match value {
+            Some(value) => value.copy_from(other),
+            None => *value = Some(other.copied()),
+        },
+        None => *value = None,
     }
 }
 

@@ -1,8 +1,18 @@
 //! What no clause says: each call once, the edges of a port, and long calls beside a plain list.
 
-use crate::Slots;
+use crate::{CopyFrom, Slots};
 use std::test::Fail;
 use wire_core::Mac;
+
+impl CopyFrom for u32 {
+    fn copied(&self) -> u32 {
+        *self
+    }
+
+    fn copy_from(&mut self, other: &u32) {
+        *self = *other;
+    }
+}
 
 fn mac(host: u8) -> Mac {
     Mac([2, 0, 0, 0, 0, host])

@@ -1,0 +1,3 @@
+pub mod Sits
+pub mod Settles
+pub mod Shows

@@ -1,0 +1,4 @@
+pub mod Holds
+pub mod Finds
+pub mod Does
+pub mod Follows

@@ -1,0 +1,48 @@
+//! What the sessions show: to dynamic requests, and to those that forward frames.
+
+ghost use Rattle.std.specs.Prelude.{◌≡◌, map, slice_get};
+ghost use Rattle.std.specs.Option.{option_map};
+ghost use Rattle.dynauth_server.specs.Roll as roll;
+ghost use Rattle.host_session.specs.Sits.{right_in};
+ghost use Rattle.switch_defs.specs.Switch as switch;
+ghost use Rattle.switch_defs.specs.Switch.{State};
+ghost use Rattle.switch_defs.specs.Decide.{right_by};
+ghost use Rattle.switch_defs.specs.Dynamic.{row_of};
+ghost use Rattle.switch_defs.specs.Laws.{IsBetween};
+ghost use Rattle.host_sessions.specs.Holds.{Holds};
+ghost use Rattle.host_sessions.specs.Finds.{IsAt};
+
+use crate::sessions::Sessions;
+use dynauth_server::RollRow;
+
+impl Sessions {
+    /// The number of the session at a place, and the VLAN that its host is forwarded into, where the
+    /// restricted VLAN of its port is this, or 0 for none (IEEE Std 802.1X-2004, 8.2.2.2).
+    pub fn right(&self, at: usize, restricted: u16) -> Option<(u32, u16)>
+        ensures { (y : switch.Session) (s : State) → IsAt at y self.now s →
+            right_in result ≡ right_by restricted y }
+    {
+        match self.slots.get(at) {
+            Some(session) => session.right(restricted),
+            None => None,
+        }
+    }
+
+    /// What a dynamic request can know the n-th session by, counted from 0 in rising order of numbers;
+    /// none exactly where there are no more (RFC 5176, 3).
+    pub fn row(&self, n: usize) -> Option<RollRow<'_>>
+        ensures { (s : State) → Holds self.now s → IsBetween s →
+            option_map roll.row_of result ≡ slice_get (map row_of s.sessions) n }
+    {
+        let at = self.slots.place_at(n)?;
+        let (port, mac) = self.slots.key(at)?;
+        let session = self.slots.get(at)?;
+        Some(RollRow {
+            number: session.number,
+            port,
+            mac,
+            identity: session.identity(),
+            authorised: session.authorised(),
+        })
+    }
+}
