@@ -92,7 +92,7 @@ impl Session {
         self.host.on_server(&told.verdict, tray);
         self.keep(told);
         let wants = self.rest();
-        self.restricted = self.host.held() || self.restricted;
+        self.restricted = rejected(self.host.held(), self.restricted);
         wants
     }
 
@@ -125,6 +125,13 @@ impl Session {
         self.end_while = self.end_while.saturating_sub(1);
         self.rest()
     }
+}
+
+// Whether a host that an answer leaves HELD or not is one that was rejected.
+fn rejected(held: bool, before: bool) -> bool
+    ensures { result ≡ (held || before) }
+{
+    held || before
 }
 
 // A State as it is kept.
