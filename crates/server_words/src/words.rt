@@ -1,4 +1,4 @@
-ghost use Rattle.std.specs.Prelude.{◌≡◌, ◌==◌, true, ℕ, IfSome};
+ghost use Rattle.std.specs.Prelude.{◌≡◌, ◌==◌, ◌≤◌, true, ℕ, IfSome, length};
 ghost use Rattle.radius_packet.specs.Views.{value_in};
 ghost use Rattle.aaa_defs.specs.Said.{wait_of};
 ghost use Rattle.radius_defs.specs.Attributes.{first_number as first_number_lem};
@@ -42,6 +42,7 @@ pub fn said<'a>(packet: &Packet<'a>, eap: Option<&'a [u8]>, native: u16) -> Told
       eap = value_in eap.entry;
     }) native }
     ensures told { IsTold result.verdict }
+    ensures state { IfSome result.state (λ octets. length octets.now ≤ 253) }
 {
     if has_code(packet, ACCESS_CHALLENGE) {
         challenged(packet, eap)
@@ -62,6 +63,7 @@ fn challenged<'a>(packet: &Packet<'a>, eap: Option<&'a [u8]>) -> Told<'a>
     requires { IfSome eap (λ e. IsCarried e.now) }
     ensures says { SaysChallenge result packet.now (value_in eap.entry) }
     ensures told { IsTold result.verdict }
+    ensures state { IfSome result.state (λ octets. length octets.now ≤ 253) }
 {
     let wait = wait(packet);
     Told {
@@ -86,6 +88,7 @@ fn accepted<'a>(packet: &Packet<'a>, eap: Option<&'a [u8]>, native: u16) -> Told
     requires eap { IfSome eap (λ e. IsCarried e.now) }
     ensures says { SaysAccept result packet.now (value_in eap.entry) native }
     ensures told { IsTold result.verdict }
+    ensures state { IfSome result.state (λ octets. length octets.now ≤ 253) }
 {
     match grant(packet, native) {
         Ok(grant) => granted(grant, eap),
@@ -98,6 +101,7 @@ fn granted<'a>(grant: Grant, eap: Option<&'a [u8]>) -> Told<'a>
     requires eap { IfSome eap (λ e. IsCarried e.now) }
     ensures says { SaysGrant result grant (value_in eap.entry) }
     ensures told { IsTold result.verdict }
+    ensures state { IfSome result.state (λ octets. length octets.now ≤ 253) }
 {
     let (timeout_end, timeout_reauth) = match grant.timeout {
         Timeout::Unset => (0, 0),
@@ -120,6 +124,7 @@ fn rejected<'a>(eap: Option<&'a [u8]>) -> Told<'a>
     requires { IfSome eap (λ e. IsCarried e.now) }
     ensures says { SaysReject result (value_in eap.entry) }
     ensures told { IsTold result.verdict }
+    ensures state { IfSome result.state (λ octets. length octets.now ≤ 253) }
 {
     Told {
         verdict: Verdict::Reject { eap },
