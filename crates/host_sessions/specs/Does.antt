@@ -21,10 +21,10 @@ pub record Does (d : Did) (k : Sessions) (from to : Things) : Type 0 where
   pub sent : to ≡ with_sent d.sent from
 
 -- a port's number, its address and its native VLAN
-pub record IsPortOf (s : State) (q : Port) (port : ℕ) (own : List ℕ) (native : ℕ) : Type 0 where
-  pub number : q.conf.port ≡ port
-  pub own : own_address s port ≡ own
-  pub native : q.conf.native ≡ native
+pub record IsPortOf (s : State) (q : Port) (n : ℕ) (address : List ℕ) (vlan : ℕ) : Type 0 where
+  pub number : q.conf.port ≡ n
+  pub own : own_address s n ≡ address
+  pub native : q.conf.native ≡ vlan
 
 -- a session may open for a host of a port: it has none there, there is room, and it may be settled
 pub record MayOpen (q : Port) (from : List ℕ) (s : State) : Type 0 where
