@@ -1,14 +1,15 @@
 //! A session ends.
 
-ghost use Rattle.std.specs.Prelude.{◌≡◌, ◌≤◌, ◌+◌, [], ◌∷◌, false};
+ghost use Rattle.std.specs.Prelude.{◌≡◌, ◌≤◌, ◌+◌, [], ◌∷◌, Some, false};
 ghost use Rattle.out_tray.specs.Tray.{spare};
 ghost use Rattle.typed_session.specs.Follows.{with_sent};
 ghost use Rattle.switch_defs.specs.Switch as switch;
 ghost use Rattle.switch_defs.specs.Switch.{State};
 ghost use Rattle.switch_defs.specs.Session.{close};
-ghost use Rattle.switch_defs.specs.Dynamic.{say_failure};
+ghost use Rattle.switch_defs.specs.Dynamic.{disconnected, say_failure};
 ghost use Rattle.host_sessions.specs.Holds.{Holds};
 ghost use Rattle.host_sessions.specs.Finds.{IsAt};
+ghost use Rattle.host_sessions.specs.Does.{Does};
 
 use crate::sessions::Sessions;
 use out_tray::Tray;
@@ -41,5 +42,21 @@ impl Sessions {
         if let Some(session) = self.slots.get(at) {
             session.say_failure(tray);
         }
+    }
+
+    /// The host of the session at a place, which goes on, is told that it is let go, and its session is
+    /// closed (RFC 5176, 2.1). It takes 38 octets of the tray, which must be spare.
+    pub fn disconnect(&mut self, at: usize, tray: &mut Tray)
+        requires may { (y : switch.Session) × (s : State) × Holds self.old s × IsAt at y self.old s }
+        requires room { 38 ≤ spare tray.old }
+        ensures does { (y : switch.Session) (s : State) → Holds self.old s → IsAt at y self.old s →
+            y.standing.vars.gone ≡ false →
+            Does (disconnected (Some y) s) self.new tray.old tray.new }
+        ensures asked { self.new.asked ≡ self.old.asked }
+        ensures next { self.new.next ≡ self.old.next }
+        ensures room { spare tray.old ≤ spare tray.new + 38 }
+    {
+        self.say_failure(at, tray);
+        self.close(at);
     }
 }

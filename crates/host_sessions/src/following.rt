@@ -1,10 +1,10 @@
 //! What follows from a settling: the request of the session, and the end of it (RFC 4137, 7.1).
 
-ghost use Rattle.std.specs.Prelude.{◌≡◌, ◌≤◌, ◌<◌, ◌+◌, ◌^◌};
+ghost use Rattle.std.specs.Prelude.{◌≡◌, ◌≤◌, ◌<◌, ◌+◌, ◌^◌, true};
 ghost use Rattle.out_tray.specs.Tray.{spare};
 ghost use Rattle.switch_defs.specs.Switch as switch;
 ghost use Rattle.switch_defs.specs.Switch.{State, port_address};
-ghost use Rattle.switch_defs.specs.Session.{ask, forget};
+ghost use Rattle.switch_defs.specs.Session.{ask, ask_if, close_if, forget, forget_if};
 ghost use Rattle.host_sessions.specs.Holds.{Holds};
 ghost use Rattle.host_sessions.specs.Finds.{IsAt};
 ghost use Rattle.host_sessions.specs.Does.{Does};
@@ -32,16 +32,52 @@ impl Sessions {
         ensures next { self.new.next ≡ self.old.next }
         ensures room { spare tray.old ≤ spare tray.new + 4112 }
     {
-        if wants.abort {
+        self.forget_if(wants.abort, at);
+        self.ask_if(wants.ask, at, c, tray);
+        self.close_if(wants.gone, at);
+        wants.gone
+    }
+
+    fn forget_if(&mut self, unwanted: bool, at: usize)
+        ensures holds { (y : switch.Session) (s : State) → Holds self.old s → IsAt at y self.old s →
+            Holds self.new (forget_if unwanted y.host s) }
+        ensures slots { self.new.slots ≡ self.old.slots }
+        ensures asked { self.new.asked ≡ self.old.asked }
+        ensures next { self.new.next ≡ self.old.next }
+    {
+        if unwanted {
             self.forget(at);
         }
-        if wants.ask {
+    }
+
+    fn ask_if(&mut self, wanted: bool, at: usize, c: &Config, tray: &mut Tray)
+        requires may { wanted ≡ true → (y : switch.Session) × (s : State) × HasAt c.now self.old at y s
+            × IsToAsk y s }
+        requires asked { self.old.asked + 1 < 2 ^ 64 }
+        requires room { 4112 ≤ spare tray.old }
+        ensures does { (y : switch.Session) (s : State) → HasAt c.now self.old at y s →
+            (wanted ≡ true → IsToAsk y s) →
+            Does (ask_if wanted y.host y.standing s) self.new tray.old tray.new }
+        ensures slots { self.new.slots ≡ self.old.slots }
+        ensures asked { self.new.asked ≤ self.old.asked + 1 }
+        ensures next { self.new.next ≡ self.old.next }
+        ensures room { spare tray.old ≤ spare tray.new + 4112 }
+    {
+        if wanted {
             self.ask(at, c, tray);
         }
-        if wants.gone {
+    }
+
+    fn close_if(&mut self, gone: bool, at: usize)
+        requires { (y : switch.Session) × (s : State) × Holds self.old s × IsAt at y self.old s }
+        ensures holds { (y : switch.Session) (s : State) → Holds self.old s → IsAt at y self.old s →
+            Holds self.new (close_if gone y.host s) }
+        ensures asked { self.new.asked ≡ self.old.asked }
+        ensures next { self.new.next ≡ self.old.next }
+    {
+        if gone {
             self.close(at);
         }
-        wants.gone
     }
 
     // The request of the session at a place is forgotten.

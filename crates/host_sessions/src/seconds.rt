@@ -1,6 +1,6 @@
 //! A second.
 
-ghost use Rattle.std.specs.Prelude.{◌≡◌, ◌≤◌, ◌<◌, ◌+◌, ◌^◌, MatchOption, None};
+ghost use Rattle.std.specs.Prelude.{◌≡◌, ◌≤◌, ◌<◌, ◌+◌, ◌^◌, ◌==◌, false};
 ghost use Rattle.aaa_defs.specs.Waits.{pending_of};
 ghost use Rattle.aaa_defs.specs.Age.{aged, after_second};
 ghost use Rattle.out_tray.specs.Tray.{spare};
@@ -8,11 +8,11 @@ ghost use Rattle.typed_session.specs.Follows.{with_sent};
 ghost use Rattle.switch_defs.specs.Switch as switch;
 ghost use Rattle.switch_defs.specs.Switch.{Standing, State};
 ghost use Rattle.switch_defs.specs.Laws.{IsBetween};
-ghost use Rattle.switch_defs.specs.Turn.{is_given_up, second_of, sent_again};
+ghost use Rattle.switch_defs.specs.Turn.{is_given_up, second_by, second_of, sent_again};
 ghost use Rattle.host_session.specs.Sits.{SitsAs};
 ghost use Rattle.host_sessions.specs.Holds.{Holds};
 ghost use Rattle.host_sessions.specs.Finds.{IsAt};
-ghost use Rattle.host_sessions.specs.Does.{Does, is_ended_by_second};
+ghost use Rattle.host_sessions.specs.Does.{Does, a_second_later, is_ended_by_second, is_gone};
 ghost use Rattle.host_sessions.specs.Follows.{WaitsFor, sent_of_pending};
 
 use crate::sessions::Sessions;
@@ -32,8 +32,41 @@ impl Sessions {
         requires room { 9758 ≤ spare tray.old }
         ensures does { (y : switch.Session) (s : State) → Holds self.old s → s.config ≡ c.now →
             IsAt at y self.old s → IsBetween s → Does (second_of y s) self.new tray.old tray.new }
-        ensures gone { (y : switch.Session) (s : State) → Holds self.old s → IsAt at y self.old s →
-            IsBetween s → result ≡ is_ended_by_second y s }
+        ensures gone { (y : switch.Session) (s : State) → Holds self.old s → s.config ≡ c.now →
+            IsAt at y self.old s → IsBetween s → result ≡ is_ended_by_second y s }
+        ensures asked { self.new.asked ≤ self.old.asked + 1 }
+        ensures next { self.new.next ≡ self.old.next }
+        ensures room { spare tray.old ≤ spare tray.new + 9758 }
+    {
+        if self.is_over(at) {
+            self.disconnect(at, tray);
+            true
+        } else {
+            self.pass(at, c, tray)
+        }
+    }
+
+    // Whether a second more ends the session at a place.
+    fn is_over(&self, at: usize) -> bool
+        ensures { (y : switch.Session) (s : State) → IsAt at y self.now s →
+            result ≡ (y.standing.end_while == 1) }
+    {
+        match self.slots.get(at) {
+            Some(session) => session.end_while == 1,
+            None => false,
+        }
+    }
+
+    // A second goes by for a session whose time is not over in it.
+    fn pass(&mut self, at: usize, c: &Config, tray: &mut Tray) -> bool
+        requires may { (y : switch.Session) × (s : State) × Holds self.old s × (s.config ≡ c.now)
+            × IsAt at y self.old s × IsBetween s }
+        requires asked { self.old.asked + 1 < 2 ^ 64 }
+        requires room { 9758 ≤ spare tray.old }
+        ensures does { (y : switch.Session) (s : State) → Holds self.old s → s.config ≡ c.now →
+            IsAt at y self.old s → IsBetween s → Does (second_by false y s) self.new tray.old tray.new }
+        ensures gone { (y : switch.Session) (s : State) → Holds self.old s → s.config ≡ c.now →
+            IsAt at y self.old s → IsBetween s → result ≡ is_gone (a_second_later y s) }
         ensures asked { self.new.asked ≤ self.old.asked + 1 }
         ensures next { self.new.next ≡ self.old.next }
         ensures room { spare tray.old ≤ spare tray.new + 9758 }
@@ -41,11 +74,6 @@ impl Sessions {
         let Some(session) = self.slots.get_mut(at) else {
             unreachable!()
         };
-        if session.end_while == 1 {
-            session.say_failure(tray);
-            self.close(at);
-            return true;
-        }
         let gave_up = age(&mut self.waits, session, tray);
         let wants = session.second(gave_up, tray);
         self.follow(at, wants, c, tray)
@@ -97,8 +125,10 @@ pub(crate) fn send(waits: &Waits, number: u32, tray: &mut Tray)
     ensures room { spare tray.old ≤ spare tray.new + 4112 }
 {
     if let Some(request) = waits.pending(number) {
+        // Contracts see both in the name of the request.
+        let (socket, _identifier) = (request.socket, request.id);
         tray.put(Sent::Radius {
-            socket: request.socket,
+            socket,
             octets: request.octets(),
         });
     }

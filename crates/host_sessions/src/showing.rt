@@ -34,7 +34,7 @@ impl Sessions {
         ensures { (s : State) → Holds self.now s → IsBetween s →
             option_map roll.row_of result ≡ slice_get (map row_of s.sessions) n }
     {
-        let at = self.slots.place_at(n)?;
+        let at = self.place_at(n)?;
         let (port, mac) = self.slots.key(at)?;
         let session = self.slots.get(at)?;
         Some(RollRow {
