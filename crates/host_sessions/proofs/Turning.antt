@@ -17,7 +17,7 @@ use Rattle.switch_defs.specs.Switch as switch
 use Rattle.switch_defs.specs.Switch.{Host, Standing, State, Did}
 use Rattle.switch_defs.specs.Session.{Cause, ask_if, close_if, forget_if, place, rested, settle_session}
 use Rattle.switch_defs.specs.Laws.{MayAsk}
-use Rattle.switch_defs.proofs.Fitting.{asks_once}
+use Rattle.switch_defs.proofs.Soundness.{asks_once}
 use Rattle.host_session.specs.declared.session.Session.{Session}
 use Rattle.host_session.specs.Settles.{IsWanted, Settles}
 use Rattle.host_sessions.specs.declared.sessions.Sessions.{Sessions}
