@@ -5,3 +5,5 @@ pub mod Numbered
 pub mod Waiting
 pub mod Asking
 pub mod Turning
+pub mod Passing
+pub mod Beginning
