@@ -31,7 +31,7 @@ impl Session {
         requires room { 1534 ≤ spare tray.old }
         ensures settles { (x : Standing) → SitsAs self.old x →
             Settles (cause_of (event_of said.entry)) (set_vars (event_of said.entry) x) self.new result
-                tray.old tray.new }
+            tray.old tray.new }
         ensures number { self.new.number ≡ self.old.number }
         ensures room { spare tray.old ≤ spare tray.new + 1534 }
     {
@@ -117,7 +117,7 @@ impl Session {
         requires { 1534 ≤ spare tray.old }
         ensures settles { (x : Standing) → SitsAs self.old x →
             Settles Another (set_vars (live.Second gave_up) (record x { end_while = x.end_while - 1 }))
-                self.new result tray.old tray.new }
+            self.new result tray.old tray.new }
         ensures number { self.new.number ≡ self.old.number }
         ensures room { spare tray.old ≤ spare tray.new + 1534 }
     {

@@ -98,7 +98,13 @@ impl Session {
     {
         if let Some(common) = common(&self.host) {
             let failure = [4, common.id, 0, 4];
-            eap_frames::put(common.port, Mac(common.own), Mac(common.peer), &failure, tray);
+            eap_frames::put(
+                common.port,
+                Mac(common.own),
+                Mac(common.peer),
+                &failure,
+                tray,
+            );
         }
     }
 }

@@ -91,7 +91,7 @@ pub opened_may : (c : Config) (k : Sessions) (s : State) (q : Port) (at port : â
     let x = fresh_standing s q from in
     let x' = rested Another x (settled x.vars).vars in
     MayFollow c (record k { slots = es; next = k.next + 1 }) at wants
-        (record { host = h; standing = x' }) (place h x' (with_session h x s))
+    (record { host = h; standing = x' }) (place h x' (with_session h x s))
 opened_may c k s q at port from w wants before after es holds config number may given settles slots table =
     let h : Host = opened s q from in
     let x : Standing = fresh_standing s q from in

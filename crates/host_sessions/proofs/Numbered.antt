@@ -65,7 +65,7 @@ nth_is es n at table is =
     by (Some e) k found =
         let place : e.place ≡ at = sym (same_Some at e.place found) in
         let held : held_at at es ≡ Some e = ap (λ q. held_at q es) (sym place)
-            ∙ of_nth (λ (f : Entry Session). held_at f.place es ≡ Some f) es n e (each_at_place es table) k in
+        ∙ of_nth (λ (f : Entry Session). held_at f.place es ≡ Some f) es n e (each_at_place es table) k in
         (e, record { nth = k; place = place; value = ap (option_map (λ (f : Entry Session). f.value)) held })
 
 pub place_if_is : (number : ℕ) (es : List (Entry Session)) (n at : ℕ) (e : Entry Session) →

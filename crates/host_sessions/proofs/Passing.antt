@@ -38,7 +38,7 @@ pub aged_may : (c : Config) (k : Sessions) (s : State) (at : ℕ) (y : switch.Se
     Holds k s → s.config ≡ c → IsAt at y k s → IsBetween s → n ≡ y.host.number →
     w ≡ after_second n k.waits →
     MayTurn c (record k { waits = w }) at y (a_second_later y s)
-        (age_request (aged (pending_of y.host.number s.waits)) y.host s)
+    (age_request (aged (pending_of y.host.number s.waits)) y.host s)
 aged_may c k s at y n w holds config i between number e = record {
   holds = record {
     table = holds.table;

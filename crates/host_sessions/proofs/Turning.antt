@@ -73,7 +73,7 @@ pub turned : (why : Cause) (c : Config) (k : Sessions) (at : ℕ) (y : switch.Se
     Settles why x w wants from to →
     let x' = rested why x (settled x.vars).vars in
     MayFollow c (record k { slots = renewed at w k.slots }) at wants (record y { standing = x' })
-        (place y.host x' s)
+    (place y.host x' s)
 turned why c k at y x s v w wants from to may here number times settles =
     let x' = rested why x (settled x.vars).vars in
     let keeps = keeps_its_peer x.vars may.ask.settle.ready in

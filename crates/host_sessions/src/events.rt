@@ -40,7 +40,7 @@ impl Sessions {
         ensures does { (y : switch.Session) (s : State) →
             MayTurn c.now self.old at y (set_vars (event_of said.entry) y.standing) s →
             Does (settle_session (cause_of (event_of said.entry)) y.host
-                (set_vars (event_of said.entry) y.standing) s) self.new tray.old tray.new }
+            (set_vars (event_of said.entry) y.standing) s) self.new tray.old tray.new }
         ensures gone { (y : switch.Session) (s : State) →
             MayTurn c.now self.old at y (set_vars (event_of said.entry) y.standing) s →
             result ≡ is_gone (set_vars (event_of said.entry) y.standing) }
@@ -70,7 +70,7 @@ impl Sessions {
             Means told.now meant s.config.times y.standing.vars.current_id (kept_of y.standing) →
             MayTurn c.now self.old at y (stands meant y.standing) s →
             Does (settle_session AnAnswer y.host (stands meant y.standing) s)
-                self.new tray.old tray.new }
+            self.new tray.old tray.new }
         ensures gone { (y : switch.Session) (meant : word.Said) (s : State) →
             Means told.now meant s.config.times y.standing.vars.current_id (kept_of y.standing) →
             MayTurn c.now self.old at y (stands meant y.standing) s →

@@ -45,8 +45,7 @@ impl Sessions {
         ensures room { spare tray.old ≤ spare tray.new + 5646 }
     {
         let number = self.next;
-        let (session, wants) =
-            host_session::open(number, port, own, mac, native, &c.times, tray);
+        let (session, wants) = host_session::open(number, port, own, mac, native, &c.times, tray);
         let Ok(at) = self.slots.insert(port, mac, session) else {
             unreachable!()
         };

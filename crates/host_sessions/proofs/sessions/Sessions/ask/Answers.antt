@@ -48,7 +48,7 @@ returns-clause-does c = λ y s has may.
     record {
       holds = record { table = has.holds.table; sessions = has.holds.sessions; waits = waits; asked = ap (λ (n : ℕ). n + 1) has.holds.asked; next = has.holds.next };
       sent = c.send.ensures.sent
-      ∙ ap (λ (n : ℕ). with_sent (sent_of_pending (pending_of n c.ask.new.self)) t) number
-      ∙ ap (λ (w : Waits). with_sent (sent_of_pending (pending_of y.host.number w)) t) waits
-      ∙ ap (λ (o : Option Pending). with_sent (sent_of_pending o) t) (asked-found p s.waits may.free);
+          ∙ ap (λ (n : ℕ). with_sent (sent_of_pending (pending_of n c.ask.new.self)) t) number
+          ∙ ap (λ (w : Waits). with_sent (sent_of_pending (pending_of y.host.number w)) t) waits
+          ∙ ap (λ (o : Option Pending). with_sent (sent_of_pending o) t) (asked-found p s.waits may.free);
     }

@@ -27,9 +27,11 @@ follow-requires-clause-may c =
     let here : Some v ≡ value_at at k.slots = c.in-Some.ensures.value in
     let P : Times → Type 0 = λ t. Means c.args.told.now meant t y.standing.vars.current_id (kept_of y.standing) in
     let settles = c.be_told-wants.ensures.settles y.standing meant (value_sits k s at y v may.here here) (subst P (sym may.here.is.timed) means) in
-    let x' : Standing = rested AnAnswer x (settled x.vars).vars in
-    (record y { standing = x' }, place y.host x' s,
-     turned AnAnswer c.args.c.now k at y x s v c.be_told-wants.new.self c.be_told-wants.result c.args.tray.now c.be_told-wants.new.tray may here c.be_told-wants.ensures.number (set_times (event_of meant.word) y.standing.vars) settles)
+    let x' : Standing = rested AnAnswer x (settled x.vars).vars in (
+      record y { standing = x' },
+      place y.host x' s,
+      turned AnAnswer c.args.c.now k at y x s v c.be_told-wants.new.self c.be_told-wants.result c.args.tray.now c.be_told-wants.new.tray may here c.be_told-wants.ensures.number (set_times (event_of meant.word) y.standing.vars) settles,
+    )
 
 pub returns-clause-does : goal.returns-clause-does
 returns-clause-does c = λ y meant s means may.

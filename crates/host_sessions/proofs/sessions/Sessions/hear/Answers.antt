@@ -23,9 +23,11 @@ follow-requires-clause-may c =
     let v = c.in-Some.session.now in
     let here : Some v ≡ value_at at k.slots = c.in-Some.ensures.value in
     let settles = c.hear-wants.ensures.settles y.standing (value_sits k s at y v may.here here) in
-    let x' : Standing = rested (cause_of e) x (settled x.vars).vars in
-    (record y { standing = x' }, place y.host x' s,
-     turned (cause_of e) c.args.c.now k at y x s v c.hear-wants.new.self c.hear-wants.result c.args.tray.now c.hear-wants.new.tray may here c.hear-wants.ensures.number (set_times e y.standing.vars) settles)
+    let x' : Standing = rested (cause_of e) x (settled x.vars).vars in (
+      record y { standing = x' },
+      place y.host x' s,
+      turned (cause_of e) c.args.c.now k at y x s v c.hear-wants.new.self c.hear-wants.result c.args.tray.now c.hear-wants.new.tray may here c.hear-wants.ensures.number (set_times e y.standing.vars) settles,
+    )
 
 pub returns-clause-does : goal.returns-clause-does
 returns-clause-does c = λ y s may.

@@ -38,10 +38,12 @@ follow-requires-clause-may c =
     let x' : Standing = rested Another x (settled x.vars).vars in
     let times = ap (λ (d : Config). d.times) (config ∙ sym c.c.view_is) in
     let P : Standing → Type 0 = λ z. Settles Another z c.open-session.result.0 c.open-session.result.1 c.args.tray.now c.open-session.new.tray in
-    let settles = subst P (begins_as s q c.args.port c.args.own.0 from c.args.native c.c.inside.times m.4 times) c.open-session.ensures.settles in
-    (record { host = h; standing = x' }, place h x' (with_session h x s),
-     opened_may c.args.c.now k s q c.in-Ok.at c.args.port from c.open-session.result.0 c.open-session.result.1 c.args.tray.now c.open-session.new.tray c.insert.new.self
-     m.2 config m.4.number m.5 c.open-session.ensures.number settles c.in-Ok.ensures.held c.in-Ok.ensures.table)
+    let settles = subst P (begins_as s q c.args.port c.args.own.0 from c.args.native c.c.inside.times m.4 times) c.open-session.ensures.settles in (
+      record { host = h; standing = x' },
+      place h x' (with_session h x s),
+      opened_may c.args.c.now k s q c.in-Ok.at c.args.port from c.open-session.result.0 c.open-session.result.1 c.args.tray.now c.open-session.new.tray c.insert.new.self
+          m.2 config m.4.number m.5 c.open-session.ensures.number settles c.in-Ok.ensures.held c.in-Ok.ensures.table,
+    )
 
 pub returns-clause-does : goal.returns-clause-does
 returns-clause-does c = λ s q holds config p may.

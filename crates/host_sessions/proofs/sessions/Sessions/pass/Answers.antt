@@ -38,9 +38,11 @@ follow-requires-clause-may c =
     let P : Bool → Type 0 = λ b. Settles Another (set_vars (live.Second b) (record y.standing { end_while = y.standing.end_while - 1 })) c.second-wants.new.self c.second-wants.result c.age-gave_up.new.tray c.second-wants.new.tray in
     let settles = subst P gave (c.second-wants.ensures.settles y.standing sits) in
     let x : Standing = a_second_later y s in
-    let x' : Standing = rested Another x (settled x.vars).vars in
-    (record y { standing = x' }, place y.host x' s1,
-     turned Another c.args.c.now k1 at y x s1 v c.second-wants.new.self c.second-wants.result c.age-gave_up.new.tray c.second-wants.new.tray may here c.second-wants.ensures.number refl settles)
+    let x' : Standing = rested Another x (settled x.vars).vars in (
+      record y { standing = x' },
+      place y.host x' s1,
+      turned Another c.args.c.now k1 at y x s1 v c.second-wants.new.self c.second-wants.result c.age-gave_up.new.tray c.second-wants.new.tray may here c.second-wants.ensures.number refl settles,
+    )
 
 pub returns-clause-does : goal.returns-clause-does
 returns-clause-does c = λ y s holds config i between.

@@ -48,7 +48,7 @@ returns c = λ s holds between.
     let here : Some v ≡ value_at at k.slots = sym (ap option_copied c.in_ok-session.was) ∙ c.get.ensures in
     let rest : IsAtRest s.waits r.0 = of_each (IsAtRest s.waits) between.rests.sessions r.2.there in
     let sits = value_sits k s at r.0 v r.2 here in
-        let key : (c.in_ok-port.port, c.in_ok-port.mac) ≡ key_of r.2.entry =
+    let key : (c.in_ok-port.port, c.in_ok-port.mac) ≡ key_of r.2.entry =
     same_Some _ (key_of r.2.entry) (sym c.in_ok-port.was ∙ c.key.ensures ∙ ap (option_map key_of) r.2.here) in
     ap Some (same_row
     (value_number k s at r.0 v r.2 here)
