@@ -2,12 +2,12 @@
 use Rattle.std.proofs.Common.{◌≡◌, ℕ, refl, true, false, List, [], ◌∷◌, ◌++◌, map, codes, replicate, Result, Ok, Err}
 use Rattle.std.specs.Fmt.{digits}
 use Rattle.hex.proofs.OnLiterals.{hex_on_literals}
-use Rattle.machine_vars.specs.declared.control.Control.TheVariants.{Auto}
+use Rattle.machine_vars.specs.declared.control.Control.TheVariants.{Auto, ForceAuth}
 use Rattle.switch_event.specs.Config.{Config, empty}
-use Rattle.switch_event.specs.Event.Happening.{Link, Second, Frame, Radius, Dynamic}
+use Rattle.switch_event.specs.Event.Happening.{Link, Second, Frame, Radius, Dynamic, SetControl}
 use Rattle.hex.specs.Hex.{encode_with}
 use Rattle.trace_defs.specs.declared.given.TheConstants.{BRIDGE, NAS, SERVER, QUIET_PERIOD, SERVER_TIMEOUT, REAUTH_MAX, REAUTH_PERIOD, REAUTH, DYN_WINDOW, CLOCK, SEED, GUEST_WAIT, REQUIRE_MA}
-use Rattle.trace_defs.specs.declared.reason.TheConstants.{LONG, OCTET, LANE, WORD, PLACE, COUNT, NUMBER, HEX, NAME, PORT, LANED, TWICE, MISSING, UNBUILT}
+use Rattle.trace_defs.specs.declared.reason.TheConstants.{LONG, OCTET, LANE, WORD, PLACE, COUNT, NUMBER, HEX, NAME, PORT, LANED, TWICE, MISSING}
 use Rattle.trace_defs.specs.Text.{config_text, record_text}
 use Rattle.trace_defs.specs.Line.{Line, line_of}
 use Rattle.trace_defs.specs.Line.Line.{Blank, Begin, Sync, Setting, Entry}
@@ -155,15 +155,6 @@ twice_refused = refl
 missing_refused : before (codes "begin") ≡ Err MISSING
 missing_refused = refl
 
-abbrev unbuilt : List (Result Line ℕ)
-unbuilt =
-    after (codes "tick") ∷ after (codes "radius -") ∷ after (codes "radius 4 00") ∷ after (codes "dyn 192.0.2.30 0 00")
-    ∷ after (codes "control 1 force-auth") ∷ after (codes "@3 frame 1 0180c20000030200000000aa888e01010000") ∷ []
-
-unbuilt_refused : unbuilt ≡ refused UNBUILT unbuilt
-unfolding hex_on_literals digits
-unbuilt_refused = refl
-
 -- lines that are read
 abbrev read : List (Result Line ℕ)
 read =
@@ -182,6 +173,26 @@ meanings =
 read_lines : read ≡ meanings
 unfolding hex_on_literals digits
 read_lines = refl
+
+-- control events of each kind, with a lane and without one
+abbrev events : List (Result Line ℕ)
+events =
+    after (codes "link 3 down") ∷ after (codes "tick") ∷ after (codes "@1 radius -") ∷ after (codes "radius 0 00") ∷
+    after (codes "@2 radius 4 00") ∷ after (codes "dyn 192.0.2.30 0 00") ∷ after (codes "control 1 force-auth") ∷
+    after (codes "@3 frame 1 0180c20000030200000000aa888e01010000") ∷ []
+
+abbrev event_meanings : List (Result Line ℕ)
+event_meanings =
+    Ok (Entry (Control 1 (Link 3 false))) ∷ Ok (Entry (Control 1 Second)) ∷
+    Ok (Entry (Control 1 (Radius 0 []))) ∷ Ok (Entry (Control 1 (Radius 0 (0 ∷ [])))) ∷
+    Ok (Entry (Control 2 (Radius 4 (0 ∷ [])))) ∷
+    Ok (Entry (Control 1 (Dynamic (record { ip = 192 ∷ 0 ∷ 2 ∷ 30 ∷ []; port = 0 }) (0 ∷ [])))) ∷
+    Ok (Entry (Control 1 (SetControl 1 ForceAuth))) ∷
+    Ok (Entry (Control 3 (Frame 1 (1 ∷ 128 ∷ 194 ∷ 0 ∷ 0 ∷ 3 ∷ 2 ∷ 0 ∷ 0 ∷ 0 ∷ 0 ∷ 170 ∷ 136 ∷ 142 ∷ 1 ∷ 1 ∷ 0 ∷ 0 ∷ [])))) ∷ []
+
+read_events : events ≡ event_meanings
+unfolding hex_on_literals digits
+read_events = refl
 
 -- the settings that came last
 abbrev late_settings : List (Result Line ℕ)

@@ -15,9 +15,9 @@ use Rattle.trace_defs.specs.declared.keyword.Keyword.TheVariants.{Setting as IsS
 use Rattle.trace_defs.specs.declared.keyword.RecordWord.{RecordWord}
 use Rattle.trace_defs.specs.declared.keyword.RecordWord.TheVariants as entry
 use Rattle.trace_defs.specs.Word.{keyword_of, lane_of, two_of, three_of, socket_of, address_of, hex_in, control_of, link_of}
-use Rattle.trace_defs.specs.declared.reason.TheConstants.{LONG, OCTET, LANE, WORD, PLACE, COUNT, NUMBER, HEX, NAME, PORT, LANED, UNBUILT}
+use Rattle.trace_defs.specs.declared.reason.TheConstants.{LONG, OCTET, LANE, WORD, PLACE, COUNT, NUMBER, HEX, NAME, PORT, LANED}
 use Rattle.trace_defs.specs.Refusal.{◌>>=◌, or_refused, unless}
-use Rattle.trace_defs.specs.Line.{Record, Line, Head, head_of, behind_mark, has_wrong_lane, is_unknown, is_misplaced, keyword_line, headed_line, alone, is_built, in_lane, event_line, frame_line, radius_line, dyn_line, port_event, link_line, control_line, record_line, is_mark, words_line, is_comment, is_printable, stripped_line, line_of}
+use Rattle.trace_defs.specs.Line.{Record, Line, Head, head_of, behind_mark, has_wrong_lane, is_unknown, is_misplaced, keyword_line, headed_line, alone, in_lane, event_line, frame_line, radius_line, dyn_line, port_event, link_line, control_line, record_line, is_mark, words_line, is_comment, is_printable, stripped_line, line_of}
 use Rattle.trace_defs.specs.Line.Record.{Control, Data}
 use Rattle.trace_defs.specs.Line.Line.{Blank, Begin, Sync, Setting, Entry}
 use Rattle.trace_defs.proofs.PlainWords.{is_glyph}
@@ -177,7 +177,7 @@ IsEvent config (SetControl port control) = IsPort config port
 
 -- a record that a line can write under these settings
 abbrev pub IsRecord : Config → Record → Type 0
-IsRecord config (Control lane event) = (1 ≤ lane) × (lane ≤ 3) × IsEvent config event × (is_built event ≡ true)
+IsRecord config (Control lane event) = (1 ≤ lane) × (lane ≤ 3) × IsEvent config event
 IsRecord config (Data port octets) = IsPort config port × IsSized 0 2000 octets × (is_control octets ≡ false)
 
 -- what a line says that stands after `begin`
@@ -189,8 +189,7 @@ IsAfter config (Setting new given) = ⊥
 IsAfter config (Entry r) = IsRecord config r
 
 event_says : (config : Config) (lane : Option ℕ) (event : Happening) → IsLane lane → IsEvent config event → Gives (IsAfter config) (event_line lane event)
-event_says config lane event l h =
-    Gives-unless (IsAfter config) (not (is_built event)) UNBUILT [] (Ok (Entry (Control (in_lane lane) event))) (λ built. (l.low, l.high, h, not-false (is_built event) built))
+event_says config lane event l h = (l.low, l.high, h)
 
 module _ (config : Config) (lane : Option ℕ) (l : IsLane lane) where
   frame_says : (args : List (List ℕ)) → Gives (IsAfter config) (frame_line config lane args)

@@ -13,8 +13,8 @@ use Rattle.trace_defs.specs.declared.keyword.RecordWord.{RecordWord}
 use Rattle.trace_defs.specs.declared.keyword.RecordWord.TheVariants as entry
 use Rattle.trace_defs.specs.Word.{address_of, hex_in, link_of, control_of}
 use Rattle.trace_defs.specs.Text.{spaced, text_line, dotted, octets_text, control_text, link_text, event_words, record_text}
-use Rattle.trace_defs.specs.declared.reason.TheConstants.{NUMBER, HEX, NAME, PORT, LANED, UNBUILT}
-use Rattle.trace_defs.specs.Line.{Record, Line, head_of, behind_mark, is_built, in_lane, event_line, frame_line, radius_line, port_event, record_line, is_comment, line_of}
+use Rattle.trace_defs.specs.declared.reason.TheConstants.{NUMBER, HEX, NAME, PORT, LANED}
+use Rattle.trace_defs.specs.Line.{Record, Line, head_of, behind_mark, event_line, frame_line, radius_line, port_event, record_line, is_comment, line_of}
 use Rattle.trace_defs.proofs.Headed.{with-some, unless-next, spoken_line}
 use Rattle.trace_defs.specs.Line.Record.{Control, Data}
 use Rattle.trace_defs.specs.Line.Line.{Entry}
@@ -181,9 +181,6 @@ event_back config lane (SetControl port control) h =
     ∙ with-some (control_of (control_text control)) control NAME _ (control_back control)
     ∙ port_back config lane port (SetControl port control) h
 
-built_line : (lane : Option ℕ) (event : Happening) → is_built event ≡ true → event_line lane event ≡ Ok (Entry (Control (in_lane lane) event))
-built_line lane event h = unless-next (not (is_built event)) UNBUILT [] (Ok (Entry (Control (in_lane lane) event))) (ap not h)
-
 -- ---- records
 
 -- the line that is printed for a record, and what it is read as
@@ -192,21 +189,21 @@ pub record IsPrinted (config : Config) (r : Record) (text : List ℕ) : Type 0 w
   pub unfed : list_all is_no_feed text ≡ true
   pub reads : (given : ℕ) → line_of config given true text ≡ Ok (Entry r)
 
-plain_event : (config : Config) (event : Happening) → IsEvent config event → is_built event ≡ true → IsPrinted config (Control 1 event) (spaced (first event ∷ args event))
-plain_event config event h built =
+plain_event : (config : Config) (event : Happening) → IsEvent config event → IsPrinted config (Control 1 event) (spaced (first event ∷ args event))
+plain_event config event h =
     let hs = args_words config event h in
     record {
       text_is = ap text_line (words_are event);
       unfed = (words-unfed (7 ∷ mosts event) (first event ∷ args event) (first_word event, hs)).plain;
       reads = λ given. line_of-words config given true 7 (mosts event) (first event) (args event) (first_word event, hs) (no_comment event) (fits event)
-          ∙ first_is config given event ∙ event_back config None event h ∙ built_line None event built;
+          ∙ first_is config given event ∙ event_back config None event h;
     }
 
 -- behind the mark of another lane
-marked_event : (config : Config) (lane : ℕ) (event : Happening) → lane < 10 → eqb lane 1 ≡ false → IsWord 2 (64 ∷ (48 + lane) ∷ []) → IsEvent config event → is_built event ≡ true
+marked_event : (config : Config) (lane : ℕ) (event : Happening) → lane < 10 → eqb lane 1 ≡ false → IsWord 2 (64 ∷ (48 + lane) ∷ []) → IsEvent config event
     → ((rest : List (List ℕ)) → head_of (64 ∷ (48 + lane) ∷ []) rest ≡ behind_mark (Some lane) rest)
     → IsPrinted config (Control lane event) (spaced ((64 ∷ (48 + lane) ∷ []) ∷ first event ∷ args event))
-marked_event config lane event digit other word h built reads_mark =
+marked_event config lane event digit other word h reads_mark =
     let mark = 64 ∷ (48 + lane) ∷ [] in
     let hs = args_words config event h in
     record {
@@ -215,7 +212,7 @@ marked_event config lane event digit other word h built reads_mark =
           ∙ ap (λ ws. 64 ∷ (48 + lane) ∷ 32 ∷ text_line ws) (words_are event);
       unfed = (words-unfed (2 ∷ 7 ∷ mosts event) (mark ∷ first event ∷ args event) (word, (first_word event, hs))).plain;
       reads = λ given. line_of-words config given true 2 (7 ∷ mosts event) mark (first event ∷ args event) (word, (first_word event, hs)) refl (fits_marked event)
-          ∙ ap (spoken_line config given true) (reads_mark (first event ∷ args event)) ∙ laned_is config given lane event ∙ event_back config (Some lane) event h ∙ built_line (Some lane) event built;
+          ∙ ap (spoken_line config given true) (reads_mark (first event ∷ args event)) ∙ laned_is config given lane event ∙ event_back config (Some lane) event h;
     }
 
 data_record : (config : Config) (port : ℕ) (octets : List ℕ) → IsRecord config (Data port octets) → IsPrinted config (Data port octets) (spaced (codes "frame" ∷ decimal port ∷ octets_text octets ∷ []))
@@ -234,9 +231,9 @@ data_record config port octets h =
 -- a record that a line can write is printed as a line that reads as it
 pub record_back : (config : Config) (r : Record) → IsRecord config r → (text : List ℕ) × IsPrinted config r text
 record_back config (Control zero event) h = absurd (omega (arith, h.0))
-record_back config (Control (suc zero) event) h = (_, plain_event config event h.2 h.3)
-record_back config (Control (suc (suc zero)) event) h = (_, marked_event config 2 event (omega arith) refl (word_by_test 2 (codes "@2") refl) h.2 h.3 (λ rest. refl))
-record_back config (Control (suc (suc (suc zero))) event) h = (_, marked_event config 3 event (omega arith) refl (word_by_test 2 (codes "@3") refl) h.2 h.3 (λ rest. refl))
+record_back config (Control (suc zero) event) h = (_, plain_event config event h.2)
+record_back config (Control (suc (suc zero)) event) h = (_, marked_event config 2 event (omega arith) refl (word_by_test 2 (codes "@2") refl) h.2 (λ rest. refl))
+record_back config (Control (suc (suc (suc zero))) event) h = (_, marked_event config 3 event (omega arith) refl (word_by_test 2 (codes "@3") refl) h.2 (λ rest. refl))
 record_back config (Control (suc (suc (suc (suc more)))) event) h = absurd (omega (arith, h.1))
 record_back config (Data port octets) h = (_, data_record config port octets h)
 

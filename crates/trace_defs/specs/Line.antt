@@ -21,7 +21,7 @@ use Rattle.trace_defs.specs.declared.keyword.Timing.{Timing}
 use Rattle.trace_defs.specs.declared.keyword.Timing.TheVariants.{QuietPeriod, ServerTimeout, ReauthMax, ReauthPeriod, Reauth, GuestWait, DynWindow, RequireMa}
 use Rattle.trace_defs.specs.declared.given.TheConstants.{BRIDGE, NAS, SERVER, QUIET_PERIOD, SERVER_TIMEOUT, REAUTH_MAX, REAUTH_PERIOD, REAUTH, DYN_WINDOW, CLOCK, SEED, GUEST_WAIT, REQUIRE_MA}
 use Rattle.trace_defs.specs.declared.limit.TheConstants.{MOST_LINE_OCTETS, MOST_FRAME_OCTETS, MOST_DATAGRAM_OCTETS, MOST_CLIENTS}
-use Rattle.trace_defs.specs.declared.reason.TheConstants.{LONG, OCTET, LANE, WORD, PLACE, COUNT, NUMBER, HEX, NAME, PORT, LANED, TWICE, MISSING, UNBUILT}
+use Rattle.trace_defs.specs.declared.reason.TheConstants.{LONG, OCTET, LANE, WORD, PLACE, COUNT, NUMBER, HEX, NAME, PORT, LANED, TWICE, MISSING}
 use Rattle.trace_defs.specs.Refusal.{◌>>=◌, or_refused, unless}
 use Rattle.trace_defs.specs.Word.{keyword_of, timing_of, lane_of, one_of, two_of, three_of, socket_of, address_of, hex_in, name_of, control_of, link_of, switch_of}
 
@@ -207,23 +207,14 @@ setting_line config given setting.Begin args = begin_line given args
 
 -- ---- records
 
--- the control events that this version does
-abbrev pub is_built : Happening → Bool
-is_built (Link port up) = true
-is_built (Frame port octets) = false
-is_built (Radius socket octets) = false
-is_built (Dynamic from octets) = false
-is_built Second = false
-is_built (SetControl port control) = false
-
--- a control event in its lane, or in lane 1
+-- the lane of a mark, or lane 1 without one
 abbrev pub in_lane : Option ℕ → ℕ
 in_lane None = 1
 in_lane (Some lane) = lane
 
+-- a control event in its lane
 abbrev pub event_line : Option ℕ → Happening → Result Line ℕ
-event_line lane event =
-    unless ((not (is_built event), UNBUILT) ∷ []) (Ok (Entry (Control (in_lane lane) event)))
+event_line lane event = Ok (Entry (Control (in_lane lane) event))
 
 -- `frame PORT OCTETS`: a frame of the type of EAPOL is a control event, any other is data
 abbrev pub frame_line : Config → Option ℕ → List (List ℕ) → Result Line ℕ

@@ -1,6 +1,6 @@
 -- The names of the reasons to refuse a line.
 use Rattle.std.specs.Prelude.{ℕ, ◌==◌, if◌then◌else◌, List, [], codes}
-use Rattle.trace_defs.specs.declared.reason.TheConstants.{LONG, OCTET, LANE, WORD, PLACE, COUNT, NUMBER, HEX, NAME, PORT, LANED, TWICE, MISSING, UNBUILT}
+use Rattle.trace_defs.specs.declared.reason.TheConstants.{LONG, OCTET, LANE, WORD, PLACE, COUNT, NUMBER, HEX, NAME, PORT, LANED, TWICE, MISSING}
 
 abbrev pub reason_name : ℕ → List ℕ
 reason_name reason =
@@ -17,5 +17,4 @@ reason_name reason =
     else if reason == LANED then codes "lane"
     else if reason == TWICE then codes "twice"
     else if reason == MISSING then codes "missing"
-    else if reason == UNBUILT then codes "unbuilt"
     else []

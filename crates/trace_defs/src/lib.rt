@@ -18,5 +18,5 @@ pub use keyword::{Keyword, OtherVlan, RecordWord, SettingWord, Timing};
 pub use limit::{MOST_CLIENTS, MOST_DATAGRAM_OCTETS, MOST_FRAME_OCTETS, MOST_LINE_OCTETS};
 pub use line::Line;
 pub use reason::{
-    COUNT, HEX, LANE, LANED, LONG, MISSING, NAME, NUMBER, OCTET, PLACE, PORT, TWICE, UNBUILT, WORD,
+    COUNT, HEX, LANE, LANED, LONG, MISSING, NAME, NUMBER, OCTET, PLACE, PORT, TWICE, WORD,
 };

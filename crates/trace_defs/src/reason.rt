@@ -40,6 +40,3 @@ pub const TWICE: u8 = 12;
 
 /// `begin` without `server`, or a text without `begin`.
 pub const MISSING: u8 = 13;
-
-/// A control event that this version does not do.
-pub const UNBUILT: u8 = 14;
