@@ -22,7 +22,7 @@ use trace_defs::{Keyword, LANE, LONG, Line, MOST_LINE_OCTETS, OCTET, PLACE, WORD
 #[derive(Clone, Copy, Debug, PartialEq, Eq, thiserror::Error)]
 pub enum LineErr {
     /// It is refused for the first of the reasons of `trace_defs` that applies, `LONG` to
-    /// `UNBUILT`.
+    /// `MISSING`.
     #[error("the line is refused for reason {why}")]
     Bad { why: u8 },
     /// There is no memory for its octets.

@@ -4,6 +4,7 @@ ghost use Rattle.wire_defs.specs.Text.{words};
 ghost use Rattle.switch_event.specs.Event.Happening.{Second};
 ghost use Rattle.trace_defs.specs.Line as defined;
 ghost use Rattle.trace_defs.specs.Line.Line.{Sync as IsSync};
+ghost use Rattle.trace_defs.specs.declared.line.Line.TheVariants.{Control};
 ghost use Rattle.event_record.specs.Record.{event_of};
 ghost use Rattle.trace_lang.specs.Meaning.{Means, IsInPlace};
 
@@ -17,7 +18,7 @@ use std::alloc::Global;
 use switch_event::Config;
 use trace_defs::{
     COUNT, LANED, Line, MOST_DATAGRAM_OCTETS, MOST_FRAME_OCTETS, NAME, NUMBER, PORT, Record,
-    RecordWord, UNBUILT,
+    RecordWord,
 };
 use wire_core::Addr;
 
@@ -65,7 +66,7 @@ fn read_frame(alloc: Global, c: &Config, lane: Option<u8>, rest: &[u8]) -> Resul
         return Err(LineErr::Bad { why: PORT });
     }
     if is_control(octets.as_slice()) {
-        return event_line(lane, Record::Frame { port, octets });
+        return Ok(event_line(lane, Record::Frame { port, octets }));
     }
     match lane {
         Some(_) => Err(LineErr::Bad { why: LANED }),
@@ -81,7 +82,7 @@ fn read_radius(alloc: Global, lane: Option<u8>, rest: &[u8]) -> Result<Line, Lin
     let (socket, text) = socket_words(rest).ok_or(LineErr::Bad { why: COUNT })?;
     let socket = socket_of(socket).ok_or(LineErr::Bad { why: NUMBER })?;
     let octets = hex_octets(alloc, text, MOST_DATAGRAM_OCTETS)?;
-    event_line(lane, Record::Radius { socket, octets })
+    Ok(event_line(lane, Record::Radius { socket, octets }))
 }
 
 // `dyn IP PORT OCTETS`
@@ -94,7 +95,7 @@ fn read_dyn(alloc: Global, lane: Option<u8>, rest: &[u8]) -> Result<Line, LineEr
     let port = udp_port_of(port, 0).ok_or(LineErr::Bad { why: NUMBER })?;
     let octets = hex_octets(alloc, text, MOST_DATAGRAM_OCTETS)?;
     let from = Addr { ip, port };
-    event_line(lane, Record::Dynamic { from, octets })
+    Ok(event_line(lane, Record::Dynamic { from, octets }))
 }
 
 // `tick`
@@ -105,7 +106,7 @@ fn read_tick(lane: Option<u8>, rest: &[u8]) -> Result<Line, LineErr>
     if first_word(rest).is_some() {
         return Err(LineErr::Bad { why: COUNT });
     }
-    event_line(lane, Record::Second)
+    Ok(event_line(lane, Record::Second))
 }
 
 // `link PORT up` and `link PORT down`
@@ -137,19 +138,15 @@ fn port_event(c: &Config, lane: Option<u8>, port: u8, event: Record) -> Result<L
     if !c.has_port(port) {
         return Err(LineErr::Bad { why: PORT });
     }
-    event_line(lane, event)
+    Ok(event_line(lane, event))
 }
 
-// A control event in its lane, or in lane 1, where this version does it.
-fn event_line(lane: Option<u8>, event: Record) -> Result<Line, LineErr>
-    ensures means { Means (defined.event_line lane (event_of event)) result }
-    ensures place { IfOk result (IsInPlace true) }
+// A control event in its lane, or in lane 1.
+fn event_line(lane: Option<u8>, event: Record) -> Line
+    ensures { result ≡ Control (defined.in_lane lane) event }
 {
-    let Record::Link { port, up } = event else {
-        return Err(LineErr::Bad { why: UNBUILT });
-    };
-    Ok(Line::Control {
+    Line::Control {
         lane: lane.unwrap_or(1),
-        what: Record::Link { port, up },
-    })
+        what: event,
+    }
 }

@@ -2,9 +2,11 @@
 ghost use Rattle.std.specs.Prelude.{◌≡◌, IfOk, true};
 ghost use Rattle.switch_event.specs.Config.{are_ports};
 
-use crate::{Config, Event, Line, LineErr, Octets, read_line};
+use crate::{Config, Control, Event, Line, LineErr, Octets, read_line};
 use std::alloc::{AllocError, Global};
 use std::test::Fail;
+use trace_defs::{HEX, LANED};
+use wire_core::Addr;
 
 // The settings so far, and those that were given.
 #[derive(Drop)]
@@ -74,7 +76,7 @@ fn padded(alloc: Global, line: &str, count: usize) -> Result<Vec<u8>, AllocError
 }
 
 // Where a line stands, its beginning, so many octets `x` behind that, and the reason.
-const REFUSED: [(When, &str, usize, u8); 95] = [
+const REFUSED: [(When, &str, usize, u8); 88] = [
     (When::Before, "", 10241, 1),
     (When::After, "\u{1}", 10240, 1),
     (When::Before, "@9 ", 10238, 1),
@@ -188,18 +190,6 @@ const REFUSED: [(When, &str, usize, u8); 95] = [
     (When::After, "radius 00 00", 0, 7),
     (When::After, "radius 4 0g", 0, 8),
     (When::After, "radius -0", 0, 8),
-    (When::After, "tick", 0, 14),
-    (When::After, "radius 0 00", 0, 14),
-    (When::After, "radius 4 -", 0, 14),
-    (When::After, "@2 radius -", 0, 14),
-    (When::After, "dyn 192.0.2.30 0 00", 0, 14),
-    (When::After, "control 1 auto", 0, 14),
-    (
-        When::After,
-        "@3 frame 1 0180c20000030200000000aa888e01010000",
-        0,
-        14,
-    ),
 ];
 
 #[test]
@@ -268,30 +258,66 @@ fn zeros(alloc: Global, line: &str, count: usize) -> Result<Vec<u8>, AllocError>
     Ok(text)
 }
 
+// What a line is read as: a record of so many octets, another line, or the reason to refuse it.
+#[derive(Clone, Copy, Debug, PartialEq, Eq)]
+enum Found {
+    Data(usize),
+    Control(usize),
+    Other,
+    Refused(LineErr),
+}
+
+fn refused(why: u8) -> Found {
+    Found::Refused(LineErr::Bad { why })
+}
+
+fn found_in(answer: &Result<Line, LineErr>) -> Found {
+    match answer {
+        Ok(Line::Data { octets, .. }) => Found::Data(octets.as_slice().len()),
+        Ok(Line::Control { what, .. }) => match what.event() {
+            Event::Frame { octets, .. } => Found::Control(octets.len()),
+            Event::Radius { octets, .. } => Found::Control(octets.len()),
+            Event::Dynamic { octets, .. } => Found::Control(octets.len()),
+            _ => Found::Other,
+        },
+        Ok(_) => Found::Other,
+        Err(e) => Found::Refused(*e),
+    }
+}
+
 #[test]
 fn a_frame_of_2001_octets_and_a_datagram_of_5001_are_refused(rt: HostRuntime) -> Result<(), Fail> {
     let rows = [
-        ("frame 1 ", 2000, None),
-        ("frame 1 ", 2001, Some(8)),
-        ("@1 frame 2 ", 2001, Some(8)),
-        ("radius ", 5000, Some(14)),
-        ("radius ", 5001, Some(8)),
-        ("radius 4 ", 5000, Some(14)),
-        ("radius 4 ", 5001, Some(8)),
-        ("dyn 192.0.2.30 3799 ", 5000, Some(14)),
-        ("dyn 192.0.2.30 3799 ", 5001, Some(8)),
+        ("frame 1 ", 2000, Found::Data(2000)),
+        ("frame 1 ", 2001, refused(HEX)),
+        ("@1 frame 2 ", 2001, refused(HEX)),
+        (
+            "frame 1 0180c20000030200000000aa888e",
+            1504,
+            Found::Control(1518),
+        ),
+        (
+            "frame 1 0180c20000030200000000aa888e",
+            1505,
+            Found::Data(1519),
+        ),
+        (
+            "@1 frame 1 0180c20000030200000000aa888e",
+            1505,
+            refused(LANED),
+        ),
+        ("radius ", 5000, Found::Control(5000)),
+        ("radius ", 5001, refused(HEX)),
+        ("radius 4 ", 5000, Found::Control(5000)),
+        ("radius 4 ", 5001, refused(HEX)),
+        ("dyn 192.0.2.30 3799 ", 5000, Found::Control(5000)),
+        ("dyn 192.0.2.30 3799 ", 5001, refused(HEX)),
     ];
-    for (line, count, why) in rows {
+    for (line, count, wanted) in rows {
         let mut s = settings_of(rt.alloc(), When::After)?;
         let text = zeros(rt.alloc(), line, count)?;
         let answer = read_line(rt.alloc(), &mut s.config, &mut s.given, true, &text);
-        match (answer, why) {
-            (Ok(Line::Data { port: 1, octets }), None) => {
-                assert_eq!(rt; octets.as_slice().len(), count);
-            }
-            (Err(e), Some(why)) => assert_eq!(rt; e, LineErr::Bad { why }, "at {line}{count}"),
-            _ => assert!(rt; false, "at {line}{count}"),
-        }
+        assert_eq!(rt; found_in(&answer), wanted, "at {line}{count}");
     }
     Ok(())
 }
@@ -306,22 +332,82 @@ fn settings_are_valid_at_begin(rt: HostRuntime) -> Result<(), Fail> {
     Ok(())
 }
 
+// An EAPOL-Start of host 02-00-00-00-00-AA to the group address of port access entities.
+const START: [u8; 18] = [
+    0x01, 0x80, 0xc2, 0x00, 0x00, 0x03, 0x02, 0x00, 0x00, 0x00, 0x00, 0xaa, 0x88, 0x8e, 0x01, 0x01,
+    0x00, 0x00,
+];
+
 #[test]
 fn the_event_of_a_record_has_its_fields(rt: HostRuntime) -> Result<(), Fail> {
-    let mut s = settings_of(rt.alloc(), When::After)?;
-    let read = read_line(
-        rt.alloc(),
-        &mut s.config,
-        &mut s.given,
-        true,
-        b"@3 link 3 up\r",
-    )?;
-    match read {
-        Line::Control { lane, what } => {
-            assert_eq!(rt; lane, 3);
-            assert_eq!(rt; what.event(), Event::Link { port: 3, up: true });
+    let client = Addr {
+        ip: [192, 0, 2, 30],
+        port: 0,
+    };
+    let rows: [(&str, u8, Event<'_>); 9] = [
+        ("@3 link 3 up\r", 3, Event::Link { port: 3, up: true }),
+        ("link 1 down", 1, Event::Link { port: 1, up: false }),
+        ("@2 tick", 2, Event::Second),
+        (
+            "radius -",
+            1,
+            Event::Radius {
+                socket: 0,
+                octets: b"",
+            },
+        ),
+        (
+            "@1 radius 0 00",
+            1,
+            Event::Radius {
+                socket: 0,
+                octets: &[0],
+            },
+        ),
+        (
+            "@2 radius 4 00fF",
+            2,
+            Event::Radius {
+                socket: 4,
+                octets: &[0, 255],
+            },
+        ),
+        (
+            "dyn 192.0.2.30 0 09",
+            1,
+            Event::Dynamic {
+                from: client,
+                octets: &[9],
+            },
+        ),
+        (
+            "control 3 force-unauth",
+            1,
+            Event::SetControl {
+                port: 3,
+                control: Control::ForceUnauth,
+            },
+        ),
+        (
+            "@3 frame 1 0180c20000030200000000aa888e01010000",
+            3,
+            Event::Frame {
+                port: 1,
+                octets: &START,
+            },
+        ),
+    ];
+    for (line, at, event) in rows {
+        let mut s = settings_of(rt.alloc(), When::After)?;
+        let text = line.as_bytes();
+        let read = read_line(rt.alloc(), &mut s.config, &mut s.given, true, text)?;
+        match read {
+            Line::Control { lane, what } => {
+                assert_eq!(rt; lane, at, "at {line}");
+                assert_eq!(rt; what.event(), event, "at {line}");
+            }
+            _ => assert!(rt; false, "no control event at {line}"),
         }
-        _ => assert!(rt; false, "no control event"),
     }
     Ok(())
 }
