@@ -1,5 +1,5 @@
 -- Settings that were read are valid where they end.
-use Rattle.std.proofs.Common.{◌≡◌, ℕ, Bool, true, false, List, Result, Ok, Err, IfOk, sym, ap, ◌∙◌}
+use Rattle.std.proofs.Common.{◌≡◌, ℕ, Bool, false, List, Result, Ok, Err, IfOk, sym, ap, ◌∙◌}
 use Rattle.switch_event.specs.Config.{Config, empty, is_valid}
 use Rattle.trace_defs.specs.Line.{line_of}
 use Rattle.trace_defs.specs.Trace.{Progress, read_lines, start}

@@ -1,5 +1,4 @@
 -- The parts of a line, as the definitions have them.
-use Rattle.std.specs.Prelude.{ℕ, List}
 use Rattle.wire_defs.specs.Text.{words}
 use Rattle.trace_defs.specs.Line.{Head}
 use Rattle.trace_lang.specs.declared.head.Head.{Head as HeadNow}

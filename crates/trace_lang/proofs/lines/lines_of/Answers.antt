@@ -1,4 +1,4 @@
-use Rattle.std.proofs.Common.{◌≡◌, ◌<◌, ℕ, List, true, false, eqb, ◌++◌, ◌∷◌, [], length, suc, take, refl, ap, sym, ◌∙◌, subst, arith, take_all}
+use Rattle.std.proofs.Common.{◌≡◌, ◌<◌, ℕ, List, true, false, eqb, ◌++◌, ◌∷◌, [], length, suc, refl, ap, sym, ◌∙◌, subst, arith, take_all}
 use Rattle.std.proofs.lemmas.Bool.Decides.{nat_tests}
 use Rattle.std.specs.List.{flat_map}
 use Rattle.std.specs.Borrow.{Bor}

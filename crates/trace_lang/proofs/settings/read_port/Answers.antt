@@ -1,4 +1,4 @@
-use Rattle.std.proofs.Common.{◌≡◌, ◌<◌, ◌++◌, ◌∷◌, [], false, true, length, lit<, sym, ap, ◌∙◌, subst}
+use Rattle.std.proofs.Common.{◌≡◌, ◌<◌, ◌++◌, ◌∷◌, [], false, length, lit<, sym, ap, ◌∙◌, subst}
 use Rattle.switch_event.specs.declared.config.PortConf.{PortConf}
 use Rattle.switch_event.specs.Config.{is_among, are_ports}
 use Rattle.trace_defs.proofs.PortFacts.{are_ports-more, are_ports-room}
