@@ -1,3 +1,5 @@
 pub mod OutputLemmas
+pub mod PlaceLemmas
+pub mod Outcomes
 mod Worked
 mod Limits

@@ -14,7 +14,7 @@ pub blocks-append : (at : Place) (xs ys : List Record) → blocks at (xs ++ ys) 
 blocks-append at [] ys = refl
 blocks-append at (x ∷ xs) ys = ap (λ l. block at x ++ l) (blocks-append (next_place at x) xs ys) ∙ sym (append_assoc (block at x) _ _)
 
-flat_more : (phases : List (List Record)) (phase : List Record) → flat_map (λ phase. phase) (phases ++ phase ∷ []) ≡ flat_map (λ phase. phase) phases ++ phase
+pub flat_more : (phases : List (List Record)) (phase : List Record) → flat_map (λ phase. phase) (phases ++ phase ∷ []) ≡ flat_map (λ phase. phase) phases ++ phase
 flat_more phases phase = flat_map-append (λ phase. phase) phases (phase ∷ []) ∙ ap (λ l. flat_map (λ phase. phase) phases ++ l) (append-nil phase)
 
 pub plain-more : (config : Config) (phases : List (List Record)) (phase : List Record)

@@ -1,5 +1,2 @@
-pub mod Switch
-pub mod Turn
-pub mod Decide
 pub mod Output
 pub mod Status

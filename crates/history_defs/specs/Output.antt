@@ -1,13 +1,14 @@
 -- The output of a run on one thread.
-use Rattle.std.specs.Prelude.{ℕ, ◌+◌, List, [], ◌∷◌, ◌++◌}
-use Rattle.std.specs.List.{flat_map}
+use Rattle.std.specs.Prelude.{◌≡◌, ℕ, ◌+◌, List, [], ◌∷◌, ◌++◌, length, codes}
+use Rattle.std.specs.List.{flat_map, concat}
+use Rattle.std.specs.Fmt.{decimal}
 use Rattle.switch_event.specs.Config.{Config}
 use Rattle.trace_defs.specs.Line.{Record}
 use Rattle.trace_defs.specs.Line.Record.{Control, Data}
-use Rattle.trace_defs.specs.Output.{control_block, data_block}
-use Rattle.history_defs.specs.Switch.{State, opening}
-use Rattle.history_defs.specs.Turn.{turn}
-use Rattle.history_defs.specs.Decide.{decide}
+use Rattle.trace_defs.specs.Output.{control_block, data_block, line_feed}
+use Rattle.switch_defs.specs.Switch.{State, opening}
+use Rattle.switch_defs.specs.Turn.{turn}
+use Rattle.switch_defs.specs.Decide.{decide}
 
 -- how far the output is: the state, the number of the next record, and the number of control
 -- records before it
@@ -41,3 +42,27 @@ place_after at (r ∷ rest) = place_after (next_place at r) rest
 -- control records before it, each data record has that number as its front
 abbrev pub plain : Config → List (List Record) → List ℕ
 plain config phases = blocks (first_place config) (flat_map (λ phase. phase) phases)
+
+-- the output of a run on one thread, and no other text
+abbrev pub IsPlain : Config → List (List Record) → List ℕ → Type 0
+IsPlain config phases text = text ≡ plain config phases
+
+-- ---- numbers of records
+
+-- how many of these are control records
+abbrev pub controls_in : List Record → ℕ
+controls_in [] = 0
+controls_in (Control lane event ∷ rest) = controls_in rest + 1
+controls_in (Data port octets ∷ rest) = controls_in rest
+
+-- the records of all phases
+abbrev pub records_of : List (List Record) → List Record
+records_of phases = flat_map (λ phase. phase) phases
+
+-- `ok RECORDS CONTROLS`: the number of records, and that of control records among them
+abbrev pub counts_text : List (List Record) → List ℕ
+counts_text phases =
+    concat (
+    codes "ok " ∷ decimal (length (records_of phases)) ∷ codes " "
+    ∷ decimal (controls_in (records_of phases)) ∷ line_feed ∷ []
+    )
