@@ -2,3 +2,4 @@ pub mod ReadLemmas
 pub mod RecordLemmas
 pub mod StepLemmas
 pub mod FateLemmas
+pub mod CountLemmas

@@ -1,15 +1,14 @@
 -- How a run ends: its status, what it has written by then, and what is said.
-use Rattle.std.specs.Prelude.{◌≡◌, ◌⊎◌, ◌<◌, ◌≤◌, ◌+◌, ◌++◌, ◌∷◌, [], ℕ, List, length, take, Option, None, Some, Ok, Err, Result}
-use Rattle.std.specs.List.{flat_map}
+use Rattle.std.specs.Prelude.{◌≡◌, ◌⊎◌, ◌<◌, ◌≤◌, ◌+◌, ◌++◌, ◌∷◌, [], ℕ, List, length, take, MatchOption, Option, None, Some, Ok, Err, Result}
 use Rattle.std.specs.Io.KnownBytes.{Appends, Consumes, IsAtEnd}
 use Rattle.wire_defs.specs.Outside.{Rose}
 use Rattle.switch_event.specs.Config.{Config}
 use Rattle.trace_defs.specs.Line.{Record}
-use Rattle.history_defs.specs.Output.{Place, blocks, place_after, first_place, plain}
 use Rattle.trace_defs.specs.Reading.{HasRead, ended_reading}
 use Rattle.trace_defs.specs.Trace.{Progress, after_line, fate, whole, trace_of, progress_of, reason_of}
 use Rattle.trace_defs.specs.Trace.Reading.{Going}
 use Rattle.history_defs.specs.Status.{status_text, refusal_text}
+use Rattle.race_run.specs.Runs.{Phased, IsGiven}
 use Rattle.race_run.specs.declared.ending.Ending.{Ending}
 use Rattle.race_run.specs.declared.ending.Ending.TheVariants.{Done, NoMemory, Refused, ReadFault, WriteFault, Full, TooLong}
 
@@ -41,44 +40,56 @@ abbrev pub OfText : Option (List ℕ) → (List ℕ → Type 0) → Type 0
 OfText None P = (text : List ℕ) × P text
 OfText (Some text) P = P text
 
--- what a sink took is the output of these phases
-abbrev pub TakesPhases : Option (List ℕ) → Option (List ℕ) → Config → List (List Record) → Type 0
-TakesPhases origin after config phases = Appends origin after (plain config phases)
+-- what a sink took was given for these phases
+pub record TakesPhases (gives : Phased) (origin after : Option (List ℕ)) (config : Config)
+    (phases : List (List Record)) : Type 0 where
+  pub text : List ℕ
+  pub for_phases : IsGiven gives config phases text
+  pub taken : Appends origin after text
 
--- it is that of the phases that were ended
-abbrev pub TakesEnded : Option (List ℕ) → Option (List ℕ) → Progress → Type 0
-TakesEnded origin after p = TakesPhases origin after p.config p.done
+-- it was given for the phases that were ended
+abbrev pub TakesEnded : Phased → Option (List ℕ) → Option (List ℕ) → Progress → Type 0
+TakesEnded gives origin after p = TakesPhases gives origin after p.config p.done
 
--- the place of the output after the phases that were ended
-abbrev pub place_of : Progress → Place
-place_of p = place_after (first_place p.config) (flat_map (λ phase. phase) p.done)
+-- It is what was given for the phases that were ended, and a proper part of what was then given for
+-- the open one.
+pub record TakesPart (gives : Phased) (origin after : Option (List ℕ)) (p : Progress) : Type 0 where
+  pub was : List ℕ
+  pub more : List ℕ
+  pub n : ℕ
+  pub before : IsGiven gives p.config p.done was
+  pub for_phases : gives p.config (p.done ++ p.current ∷ []) (was ++ more)
+  pub proper : n < length more
+  pub taken : Appends origin after (was ++ take n more)
 
--- it is that of the phases that were ended, and a proper part of the blocks of the open one
-abbrev pub TakesPart : Option (List ℕ) → Option (List ℕ) → Progress → Type 0
-TakesPart origin after p = (n : ℕ) × (n < length (blocks (place_of p) p.current))
-    × Appends origin after (plain p.config p.done ++ take n (blocks (place_of p) p.current))
-
--- the status is that of the text, and what the sink took is the output of the whole phases of the text
-pub record EndsByFate (limit room : ℕ) (config : Config) (text : List ℕ) (origin after : Option (List ℕ)) (status : ℕ) : Type 0 where
+-- the status is that of the text, and what the sink took was given for the whole phases of the text
+pub record EndsByFate (gives : Phased) (limit room : ℕ) (config : Config) (text : List ℕ)
+    (origin after : Option (List ℕ)) (status : ℕ) : Type 0 where
   pub fated : fate limit room config text ≡ status
-  pub output : TakesPhases origin after (progress_of (trace_of limit room config text)).config (whole limit room config text)
+  pub output : TakesPhases gives origin after (progress_of (trace_of limit room config text)).config
+      (whole limit room config text)
 
 -- this line of the text is refused, for this reason
-pub record IsRefusedAt (limit room : ℕ) (config : Config) (text : List ℕ) (line why : ℕ) : Type 0 where
+pub record IsRefusedAt (limit room : ℕ) (config : Config) (text : List ℕ)
+    (line why : ℕ) : Type 0 where
   pub line_is : line ≡ (progress_of (trace_of limit room config text)).lines + 1
   pub why_is : why ≡ reason_of (trace_of limit room config text)
 
 -- what is said of the line that is refused
 abbrev pub refusal_of : ℕ → ℕ → Config → List ℕ → List ℕ
 refusal_of limit room config text =
-    refusal_text ((progress_of (trace_of limit room config text)).lines + 1) (reason_of (trace_of limit room config text))
+    refusal_text ((progress_of (trace_of limit room config text)).lines + 1)
+    (reason_of (trace_of limit room config text))
 
--- what the sink took is the output of the phases whose last line ended in the octets
-abbrev pub TakesGiven : ℕ → Config → List ℕ → Option (List ℕ) → Option (List ℕ) → Type 0
-TakesGiven room config given origin after = TakesEnded origin after (progress_of (ended_reading room config given))
+-- what the sink took was given for the phases whose last line ended in the octets
+abbrev pub TakesGiven : Phased → ℕ → Config → List ℕ → Option (List ℕ) → Option (List ℕ) → Type 0
+TakesGiven gives room config given origin after =
+    TakesEnded gives origin after (progress_of (ended_reading room config given))
 
--- The octets end with a line that ends a phase, and this stands behind the line. The lines before it lead to `p`.
-pub record EndsPhase (room : ℕ) (config : Config) (given : List ℕ) (p : Progress) (feed : List ℕ) : Type 0 where
+-- The octets end with a line that ends a phase, and this stands behind the line. The lines before
+-- it lead to `p`.
+pub record EndsPhase (room : ℕ) (config : Config) (given : List ℕ) (p : Progress)
+    (feed : List ℕ) : Type 0 where
   pub before : List ℕ
   pub line : List ℕ
   pub q : Progress
@@ -87,12 +98,15 @@ pub record EndsPhase (room : ℕ) (config : Config) (given : List ℕ) (p : Prog
   pub next : after_line room p line ≡ Ok q
   pub phase : q.done ≡ p.done ++ p.current ∷ []
 
--- A phase was not written as a whole: the octets end with the line that ends it, or it ends where the text does.
-pub record HalfWritten (limit room : ℕ) (config : Config) (given : List ℕ) (left origin after : Option (List ℕ)) : Type 0 where
+-- A phase was not written as a whole: the octets end with the line that ends it, or it ends where
+-- the text does.
+pub record HalfWritten (gives : Phased) (limit room : ℕ) (config : Config) (given : List ℕ)
+    (left origin after : Option (List ℕ)) : Type 0 where
   pub p : Progress
   pub place : EndsPhase room config given p (10 ∷ [])
-      ⊎ (IsAtEnd left × (EndsPhase room config given p [] ⊎ (trace_of limit room config given ≡ Going p)))
-  pub part : TakesPart origin after p
+      ⊎ (IsAtEnd left × (EndsPhase room config given p []
+      ⊎ (trace_of limit room config given ≡ Going p)))
+  pub part : TakesPart gives origin after p
   pub short : length given ≤ limit
 
 -- the lines that ended before the last octet lead to this progress
@@ -103,25 +117,49 @@ pub record ComesAfter (room : ℕ) (config : Config) (given : List ℕ) (p : Pro
   pub one : length last ≤ 1
   pub lines : ended_reading room config before ≡ Going p
 
--- There was no memory for the last line or for the phase that it ends: the phases before it were written as a whole.
-pub record StopsShort (limit room : ℕ) (config : Config) (given : List ℕ) (left origin after : Option (List ℕ)) : Type 0 where
+-- There was no memory for the last line or for the phase that it ends: the phases before it were
+-- written as a whole.
+pub record StopsShort (gives : Phased) (limit room : ℕ) (config : Config) (given : List ℕ)
+    (left origin after : Option (List ℕ)) : Type 0 where
   pub p : Progress
-  pub place : ComesAfter room config given p ⊎ (IsAtEnd left × (trace_of limit room config given ≡ Going p))
-  pub output : TakesEnded origin after p
+  pub place : ComesAfter room config given p
+      ⊎ (IsAtEnd left × (trace_of limit room config given ≡ Going p))
+  pub output : TakesEnded gives origin after p
   pub short : length given ≤ limit
 
--- how a run ends, by the octets that it was given and those that are left
-abbrev pub EndsAfter : ℕ → ℕ → Config → List ℕ → Option (List ℕ) → Option (List ℕ) → Option (List ℕ) → Ending → Type 0
-EndsAfter limit room config given left origin after Done = IsAtEnd left × EndsByFate limit room config given origin after 0
-EndsAfter limit room config given left origin after (Refused line why) =
-    OfText left (λ rest. EndsByFate limit room config (given ++ rest) origin after 3 × IsRefusedAt limit room config (given ++ rest) line why)
-EndsAfter limit room config given left origin after Full = OfText left (λ rest. EndsByFate limit room config (given ++ rest) origin after 6)
-EndsAfter limit room config given left origin after TooLong = OfText left (λ rest. EndsByFate limit room config (given ++ rest) origin after 8)
-EndsAfter limit room config given left origin after ReadFault = TakesGiven room config given origin after
-EndsAfter limit room config given left origin after WriteFault = HalfWritten limit room config given left origin after
-EndsAfter limit room config given left origin after NoMemory = StopsShort limit room config given left origin after
+-- what ran the phases has run these
+abbrev pub HoldsRun : {R : Type 0} → (R → Phased) → Option R → Config → List (List Record) → Type 0
+HoldsRun stands runner config phases =
+    MatchOption runner ⊥ (λ s. (text : List ℕ) × stands s config phases text)
+
+-- of what ran the phases nothing is said
+abbrev pub AnyRun : Config → List (List Record) → Type 0
+AnyRun config phases = Unit {0}
+
+-- how a run ends, by the octets that it was given and those that are left; where all phases were
+-- run, by what ran them
+abbrev pub EndsAfter : Phased → (Config → List (List Record) → Type 0) → ℕ → ℕ → Config → List ℕ
+    → Option (List ℕ) → Option (List ℕ) → Option (List ℕ) → Ending → Type 0
+EndsAfter gives ran limit room config given left origin after Done =
+    IsAtEnd left × EndsByFate gives limit room config given origin after 0
+    × ran (progress_of (trace_of limit room config given)).config (whole limit room config given)
+EndsAfter gives ran limit room config given left origin after (Refused line why) =
+    OfText left (λ rest. EndsByFate gives limit room config (given ++ rest) origin after 3
+    × IsRefusedAt limit room config (given ++ rest) line why)
+EndsAfter gives ran limit room config given left origin after Full =
+    OfText left (λ rest. EndsByFate gives limit room config (given ++ rest) origin after 6)
+EndsAfter gives ran limit room config given left origin after TooLong =
+    OfText left (λ rest. EndsByFate gives limit room config (given ++ rest) origin after 8)
+EndsAfter gives ran limit room config given left origin after ReadFault =
+    TakesGiven gives room config given origin after
+EndsAfter gives ran limit room config given left origin after WriteFault =
+    HalfWritten gives limit room config given left origin after
+EndsAfter gives ran limit room config given left origin after NoMemory =
+    StopsShort gives limit room config given left origin after
 
 -- how a run ends, by what the source had left and has left
-abbrev pub RunEnds : ℕ → ℕ → Config → Option (List ℕ) → Option (List ℕ) → Option (List ℕ) → Option (List ℕ) → Ending → Type 0
-RunEnds limit room config before left origin after ending =
-    (given : List ℕ) × Consumes before left given × EndsAfter limit room config given left origin after ending
+abbrev pub RunEnds : Phased → (Config → List (List Record) → Type 0) → ℕ → ℕ → Config
+    → Option (List ℕ) → Option (List ℕ) → Option (List ℕ) → Option (List ℕ) → Ending → Type 0
+RunEnds gives ran limit room config before left origin after ending =
+    (given : List ℕ) × Consumes before left given
+    × EndsAfter gives ran limit room config given left origin after ending

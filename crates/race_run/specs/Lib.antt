@@ -1,4 +1,6 @@
 pub mod Streams
+pub mod Runs
 pub mod Records
 pub mod Ending
+pub mod Counts
 pub mod Run

@@ -4,13 +4,15 @@ use Rattle.std.specs.Io.KnownBytes.{Appends, Keeps, Consumes, IsAtEnd}
 use Rattle.wire_defs.specs.Outside.{Rose}
 
 -- one octet was read; none is answered exactly at the end
-abbrev pub GivesOctet : {E : Type 0} → Option (List ℕ) → Option (List ℕ) → Result (Option ℕ) E → Type 0
+abbrev pub GivesOctet : {E : Type 0} → Option (List ℕ) → Option (List ℕ) → Result (Option ℕ) E
+    → Type 0
 GivesOctet old new (Ok None) = Keeps old new × IsAtEnd new
 GivesOctet old new (Ok (Some octet)) = Consumes old new (octet ∷ [])
 GivesOctet old new (Err e) = Keeps old new
 
 -- the text was taken, or at a failure a proper prefix of it
-abbrev pub TakesWhole : {A E : Type 0} → Option (List ℕ) → Option (List ℕ) → List ℕ → Result A E → Type 0
+abbrev pub TakesWhole : {A E : Type 0} → Option (List ℕ) → Option (List ℕ) → List ℕ → Result A E
+    → Type 0
 TakesWhole old new text (Ok a) = Appends old new text
 TakesWhole old new text (Err e) = (n : ℕ) × (n < length text) × Appends old new (take n text)
 

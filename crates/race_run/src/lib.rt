@@ -1,20 +1,30 @@
-//! A run of the switch over a trace: the octets that it takes from a source, the phases, the blocks that it gives to a
-//! sink, how it ends, and what is said of its end.
+//! A run over a trace: the octets that it takes from a source, the phases, the blocks that it gives
+//! to a sink, how it ends, and what is said of its end.
 #![tactic(auto)]
 
+mod check;
+mod counter;
 mod ending;
-mod entry;
 mod phase;
 mod records;
 mod refusal;
+mod replay;
 mod run;
+mod runs;
 mod sequential;
 mod streams;
+mod tag;
 
+pub use check::check_within;
+pub use counter::Counter;
 pub use ending::{Ending, status};
 pub use refusal::{say_ending, status_words};
-pub use run::replay_within;
+pub use replay::replay_within;
+pub use run::run_within;
+pub use runs::RunsPhases;
+pub use sequential::Sequential;
 pub use streams::say;
+pub use trace_record::TraceRecord;
 
 #[cfg(test)]
 mod tests;

@@ -10,9 +10,11 @@ use crate::streams::say;
 use arrayvec::ArrayVec;
 use outside_core::Sink;
 
-/// Says how a run ended, as far as `err` takes it: the line that was refused and the reason, else the words of the status.
+/// Says how a run ended, as far as `err` takes it: the line that was refused and the reason, else
+/// the words of the status.
 pub fn say_ending<K: Sink>(err: &mut K, ending: Ending)
-    ensures said { Says (K.taken err.old) (K.taken err.new) (K.faults err.old) (K.faults err.new) (ending_text ending) }
+    ensures said { Says (K.taken err.old) (K.taken err.new) (K.faults err.old) (K.faults err.new)
+        (ending_text ending) }
 {
     match ending {
         Ending::Refused { line, why } => say(err, &refusal(line, why)),
@@ -67,12 +69,11 @@ fn reason_name(why: u8) -> &'static [u8]
         11 => b"lane",
         12 => b"twice",
         13 => b"missing",
-        14 => b"unbuilt",
         _ => b"",
     }
 }
 
-fn append(out: &mut ArrayVec<u8, 64>, piece: &[u8])
+pub(crate) fn append(out: &mut ArrayVec<u8, 64>, piece: &[u8])
     requires { length out.old.items + length piece.now ≤ 64 }
     ensures { out.new.items ≡ out.old.items ++ piece.now }
 {

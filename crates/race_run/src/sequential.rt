@@ -1,19 +1,18 @@
 // The authenticator on one thread.
-ghost use Rattle.std.specs.Prelude.{◌<◌};
-
-use control_core::Core;
+use auth_table::Table;
 use out_tray::Tray;
 
 /// The authenticator on one thread, between two records.
 #[derive(Drop)]
-pub struct Sequential {
+pub struct Sequential<A> {
     /// The authenticator.
-    pub core: Core,
+    pub(crate) core: A,
+    /// The table by which data frames are decided, in step with it.
+    pub(crate) table: Table,
     /// What its last turn sent.
-    pub tray: Tray,
+    pub(crate) tray: Tray,
     /// The number of the next record, from 1.
-    pub number: u64,
+    pub(crate) number: u64,
     /// The number of control records before it.
-    pub serial: u64,
-    ghost below: { serial < number },
+    pub(crate) serial: u64,
 }

@@ -38,7 +38,8 @@ pub fn write_whole<K: Sink>(out: &mut K, text: &[u8]) -> Result<(), Failed>
 
 /// Writes a text as far as the sink takes it.
 pub fn say<K: Sink>(err: &mut K, text: &[u8])
-    ensures said { Says (K.taken err.old) (K.taken err.new) (K.faults err.old) (K.faults err.new) text.now }
+    ensures said { Says (K.taken err.old) (K.taken err.new) (K.faults err.old)
+        (K.faults err.new) text.now }
 {
     let _told = write_whole(err, text);
 }

@@ -1,24 +1,41 @@
-// Where a run ends at its limits.
-use crate::{Ending, replay_within};
+// Where a run ends at its limits, and what is counted.
+use crate::{Counter, Ending, check_within, run_within};
 use outside_core::{MemSink, MemSource};
 use std::test::Fail;
 
 const ROOM: usize = 1 << 16;
 
+const TEXT: &[u8] =
+    b"server 192.0.2.20 1812 73\nport 3 30 force-unauth\nbegin\nlink 3 down\n\n# none\nsync\nlink 3 down\nframe 3 ffffffffffff0200000000bb0800\nlink 3 down\n";
+
 #[test]
 fn a_trace_past_its_limits_is_not_run(rt: HostRuntime) -> Result<(), Fail> {
-    let text =
-        b"server 192.0.2.20 1812 73\nport 3 30 force-unauth\nbegin\nlink 3 down\nsync\nlink 3 down\nlink 3 down\n";
     let rows: [(usize, u64, Ending); 3] = [
-        (text.len(), 3, Ending::Done),
-        (text.len() - 1, 3, Ending::TooLong),
-        (text.len(), 2, Ending::Full),
+        (TEXT.len(), 3, Ending::Done),
+        (TEXT.len() - 1, 3, Ending::TooLong),
+        (TEXT.len(), 2, Ending::Full),
     ];
     for (limit, room, ending) in rows {
-        let mut source = MemSource::new(rt.alloc(), text, 4096, &[])?;
+        let mut source = MemSource::new(rt.alloc(), TEXT, 4096, &[])?;
         let mut out = MemSink::new(rt.alloc(), ROOM, &[])?;
-        let ended = replay_within(rt.alloc(), limit, room, &mut source, &mut out);
+        let (ended, _) = run_within::<Counter, _, _>(
+            rt.alloc(),
+            limit,
+            room,
+            &mut source,
+            &mut out,
+        );
         assert_eq!(rt; ended, ending, "at {limit} {room}");
     }
+    Ok(())
+}
+
+#[test]
+fn records_and_control_records_are_counted(rt: HostRuntime) -> Result<(), Fail> {
+    let mut source = MemSource::new(rt.alloc(), TEXT, 4096, &[])?;
+    let mut out = MemSink::new(rt.alloc(), ROOM, &[])?;
+    let ended = check_within(rt.alloc(), TEXT.len(), 3, &mut source, &mut out);
+    assert_eq!(rt; ended, Ending::Done);
+    assert_eq!(rt; out.taken(), b"ok 4 3\n".as_slice());
     Ok(())
 }

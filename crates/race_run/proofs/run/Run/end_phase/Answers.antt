@@ -1,30 +1,26 @@
-use Rattle.std.proofs.Common.{refl, ap, ◌∙◌, subst, MatchOption}
-use Rattle.race_run.specs.Records.{entered_all}
-use Rattle.race_run.specs.Run.{IsUnbegun, HasBegun, ended}
-use Rattle.race_run.proofs.StepLemmas.{phase_ran, phase_taken, phase_part}
+use Rattle.std.proofs.Common.{refl, ap}
+use Rattle.trace_record.specs.Entered.{entered_all}
+use Rattle.race_run.proofs.StepLemmas.{Steps-phase, Halts-phase, may_run, sound_phase}
 use Rattle.race_run.proofs.run.Run.end_phase.Goals as goal
 
+pub run-requires : goal.run-requires
+run-requires g c = record {
+  fits = may_run g.R.RunsPhases.stands g.R.RunsPhases.gives c.args.self.now c.in-Some.runner (entered_all c.deref.result.now) c.in-Some.is (ap entered_all c.deref.ensures.value) c.requires.sound c.requires.short;
+}
+
 pub returns-in-Ok-clause-ok : goal.returns-in-Ok-clause-ok
-returns-in-Ok-clause-ok g c = λ origin p at.
-    let begun = subst (λ o. MatchOption o (IsUnbegun p) (HasBegun p)) c.in-Some.is at.begun in
-    let ran = phase_ran p c.in-Some.switch c.run.new.self c.deref.result.now _ _ c.in_ok-run.ensures.blocks c.new-text.ensures.items begun
-    (ap entered_all c.deref.ensures.value ∙ at.records) in (
-      ended p,
-      refl,
-      record {
-        config = at.config;
-        given = at.given;
-        lines = at.lines;
-        controls = at.controls;
-        records = ap entered_all c.clear.ensures.items;
-        begun = ran.1;
-        written = phase_taken origin _ _ p c.deref-2.result.now at.written c.in-Ok.ensures.octets (c.deref-2.ensures.value ∙ ran.0);
-      },
-    )
+returns-in-Ok-clause-ok g c =
+    Steps-phase g.R.RunsPhases.stands g.R.RunsPhases.gives _ _ c.args.self.now _ c.in-Some.runner c.run.new.self (entered_all c.deref.result.now) _ c.run.new.text.items c.deref-2.result.now c.deref-2.ensures.value
+    c.in-Some.is (ap entered_all c.deref.ensures.value) c.in_ok-run.ensures.ran c.new-text.ensures.items c.in-Ok.ensures.octets c.clear.ensures.items refl
+
+pub returns-in-Ok-clause-sound : goal.returns-in-Ok-clause-sound
+returns-in-Ok-clause-sound g c = (
+  sound_phase g.R.RunsPhases.stands g.R.RunsPhases.gives c.args.self.now _ c.in-Some.runner c.run.new.self (entered_all c.deref.result.now) _ c.run.new.text.items
+      c.in-Some.is (ap entered_all c.deref.ensures.value) c.in_ok-run.ensures.ran c.clear.ensures.items refl c.requires.sound,
+  refl,
+)
 
 pub returns-clause-err : goal.returns-clause-err
-returns-clause-err g c = λ origin p at.
-    let begun = subst (λ o. MatchOption o (IsUnbegun p) (HasBegun p)) c.in-Some.is at.begun in
-    let ran = phase_ran p c.in-Some.switch c.run.new.self c.deref.result.now _ _ c.in_ok-run.ensures.blocks c.new-text.ensures.items begun
-    (ap entered_all c.deref.ensures.value ∙ at.records) in
-    (ended p, refl, refl, phase_part origin _ _ p c.deref-2.result.now at.written c.in-Err.ensures.octets (c.deref-2.ensures.value ∙ ran.0))
+returns-clause-err g c =
+    Halts-phase g.R.RunsPhases.stands g.R.RunsPhases.gives _ _ c.args.self.now c.in-Some.runner c.run.new.self (entered_all c.deref.result.now) _ c.run.new.text.items c.deref-2.result.now c.deref-2.ensures.value
+    c.in-Some.is (ap entered_all c.deref.ensures.value) c.in_ok-run.ensures.ran c.new-text.ensures.items c.in-Err.ensures.octets

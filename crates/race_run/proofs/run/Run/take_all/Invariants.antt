@@ -1,0 +1,19 @@
+use Rattle.std.proofs.Common.{◌≡◌, ◌≤◌, ◌-◌, false}
+use Rattle.race_run.specs.Run.{IsSound}
+use Rattle.switch_event.specs.Config.{empty}
+use Rattle.race_run.proofs.FateLemmas.{HasReached}
+use Rattle.race_run.proofs.run.Run.take_all.Given as goal
+
+abbrev pub invariant-octets : goal.invariant-octets
+invariant-octets g l = record {
+  within : l.count ≤ l.limit;
+  lines : l.self.lines ≤ l.count;
+  sound : IsSound g.R.RunsPhases.stands l.self;
+  line : l.self.line.ended ≡ false;
+  reached : HasReached g.R.RunsPhases.stands g.R.RunsPhases.gives l.room empty (g.S.Source.left l.fn.source) (g.S.Source.left l.source) (g.K.Sink.taken l.fn.out) (g.K.Sink.taken l.out) l.count l.self;
+  source_later : g.S.Source.faults l.fn.source ≤ g.S.Source.faults l.source;
+  out_later : g.K.Sink.faults l.fn.out ≤ g.K.Sink.faults l.out;
+}
+
+abbrev pub decreases-octets : goal.decreases-octets
+decreases-octets g l = l.limit - l.count

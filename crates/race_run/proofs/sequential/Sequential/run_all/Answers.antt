@@ -1,0 +1,29 @@
+use Rattle.std.proofs.Common.{take, drop, ap, ◌∙◌, sym, ◌∷◌, [], ◌++◌, ◌+◌, append_assoc, ◌≡◌}
+use Rattle.std.proofs.lemmas.List.{take_more, take_all, take-append-drop}
+use Rattle.race_run.proofs.RecordLemmas.{PrintsAll-none, PrintsAll-more, PrintsAll-whole, may_one}
+use Rattle.race_run.proofs.sequential.Sequential.run_all.Goals as goal
+
+pub loop-entry-init : goal.loop-entry-init
+loop-entry-init g c = PrintsAll-none g.A.Authenticator.stands g.A.Authenticator.made c.args.self.now c.args.text.now.items
+
+pub run_record-requires : goal.run_record-requires
+run_record-requires g c =
+    let all = c.args.records.now in
+    let i = c.loop-entry.entry-index in
+    let r = c.entry-item.result in
+    let more : take (i + 1) all ≡ take i all ++ r ∷ [] = take_more all i r c.loop-entry-test.true ∙ ap (λ x. take i all ++ x ∷ []) (sym c.entry-item.is) in
+    let split : all ≡ take i all ++ r ∷ drop (i + 1) all =
+    sym (take-append-drop (i + 1) all) ∙ ap (λ l. l ++ drop (i + 1) all) more ∙ append_assoc (take i all) (r ∷ []) (drop (i + 1) all) in
+    record {
+      place = may_one g.A.Authenticator.stands g.A.Authenticator.made c.args.self.now c.loop-entry.self (take i all) all r (drop (i + 1) all) _ _ c.requires.place.0 c.requires.place.1 c.requires.place.2 c.loop-entry.invariant split;
+    }
+
+pub loop-entry-preserved : goal.loop-entry-preserved
+loop-entry-preserved g c =
+    PrintsAll-more g.A.Authenticator.stands g.A.Authenticator.made c.args.self.now c.loop-entry.self c.run_record.new.self _ _ c.entry-item.result _ _ _ c.loop-entry.invariant c.in_ok-run_record.ensures.block
+    (take_more c.args.records.now c.loop-entry.entry-index c.entry-item.result c.loop-entry-test.true ∙ ap (λ r. take c.loop-entry.entry-index c.args.records.now ++ r ∷ []) (sym c.entry-item.is))
+
+pub returns : goal.returns
+returns g c = record {
+  blocks = PrintsAll-whole g.A.Authenticator.stands g.A.Authenticator.made c.args.self.now c.loop-entry.self _ _ _ _ c.loop-entry.invariant (take_all c.loop-entry.entry-index c.args.records.now c.loop-entry-test.false);
+}

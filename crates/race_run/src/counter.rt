@@ -1,0 +1,57 @@
+// What runs no record, and counts them.
+ghost use Rattle.std.specs.Prelude.{◌≡◌, ◌+◌, ◌<◌, ◌^◌, length};
+ghost use Rattle.history_defs.specs.Output.{controls_in};
+ghost use Rattle.trace_record.specs.Entered.{entered_all};
+
+use crate::runs::RunsPhases;
+use std::alloc::{AllocError, Global};
+use trace_lang::Config;
+use trace_record::TraceRecord;
+
+/// Counts the records of phases, and gives no text for them.
+#[derive(Clone, Copy, Debug, Default, PartialEq, Eq)]
+pub struct Counter {
+    /// How many records there were.
+    pub records: u64,
+    /// How many of them were control records.
+    pub controls: u64,
+}
+
+impl Counter {
+    fn count(&mut self, records: &[TraceRecord])
+        requires records { self.old.records + length records.now < 2 ^ 64 }
+        requires controls { self.old.controls + controls_in (entered_all records.now) < 2 ^ 64 }
+        ensures records { self.new.records ≡ self.old.records + length records.now }
+        ensures controls { self.new.controls
+            ≡ self.old.controls + controls_in (entered_all records.now) }
+    {
+        let mut rest = records;
+        while let [record, after @ ..] = rest {
+            self.records += 1;
+            if let TraceRecord::Control { .. } = record {
+                self.controls += 1;
+            }
+            rest = after;
+        }
+    }
+}
+
+impl RunsPhases for Counter {
+    ghost use Rattle.race_run.specs.Records.{HasCounted, IsSilent};
+
+    ghost stands = { HasCounted };
+
+    ghost gives = { IsSilent };
+
+    fn open(_alloc: Global, _config: &Config) -> Result<Counter, AllocError> {
+        Ok(Counter {
+            records: 0,
+            controls: 0,
+        })
+    }
+
+    fn run(&mut self, records: &[TraceRecord], _text: &mut Vec<u8>) -> Result<(), AllocError> {
+        self.count(records);
+        Ok(())
+    }
+}

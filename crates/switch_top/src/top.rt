@@ -1,0 +1,116 @@
+// The call that does all that the program does.
+ghost use Rattle.std.specs.Prelude.{◌≡◌, ◌≢◌, ◌↔◌, ◌⊎◌, ℕ, List, [], Option, None, Some, map, string_bytes};
+ghost use Rattle.std.specs.Io.KnownBytes.{Appends, IsAtEnd};
+ghost use Rattle.wire_defs.specs.Outside.{Rose};
+ghost use Rattle.switch_event.specs.Config.{empty};
+ghost use Rattle.history_defs.specs.Output.{IsPlain};
+ghost use Rattle.history_defs.specs.Status.{status_text};
+ghost use Rattle.race_run.specs.Streams.{Says};
+ghost use Rattle.race_run.specs.Ending.{OfText, EndsByFate, TakesGiven, HalfWritten, StopsShort, refusal_of, status_of, ending_text};
+ghost use Rattle.race_run.specs.Counts.{HalfCounted};
+ghost use Rattle.switch_top.specs.declared.form.Form.TheVariants.{Check as AsksCheck, Replay as AsksReplay};
+ghost use Rattle.switch_top.specs.Form.{form_of as asked};
+ghost use Rattle.switch_top.specs.Top.{CountsByFate, IsByText, IsStatus, OfGiven};
+
+use crate::form::{Form, form_of};
+use authenticator::Authenticator;
+use event_record::MOST_EVENTS;
+use history_defs::MOST_OCTETS;
+use outside_core::{Sink, Source};
+use race_run::{Ending, check_within, replay_within, say, say_ending, status, status_words};
+use std::alloc::Global;
+
+/// Runs the program of these words over a source, writes its output into `out` and what is said of
+/// its status into `err`, and answers the status. `check` counts the records of a trace; `replay`
+/// runs them on one thread, with this authenticator.
+pub fn switch_top<A: Authenticator + Drop, S: Source, K: Sink>(
+    alloc: Global,
+    words: &[String],
+    source: &mut S,
+    out: &mut K,
+    err: &mut K,
+) -> u8
+    // No other status comes. That of the words comes exactly where they are no form, and nothing
+    // was read or written then.
+    ensures statuses { IsStatus result }
+    ensures usage { (result ≡ 2) ↔ (asked (map string_bytes words.now) ≡ None) }
+    ensures unused { result ≡ 2 → (source.new ≡ source.old) × (out.new ≡ out.old) }
+
+    // The status is that of the text always, unless something outside failed or there was no
+    // memory. A fault comes only where a count rose.
+    ensures always { (Rose (S.faults source.old) (S.faults source.new) → ⊥)
+        → (Rose (K.faults out.old) (K.faults out.new) → ⊥) → result ≢ 1 → result ≢ 2
+        → IsByText result }
+    ensures at_end { result ≡ 0 → IsAtEnd (S.left source.new) }
+    ensures read_fault { result ≡ 4 → Rose (S.faults source.old) (S.faults source.new) }
+    ensures write_fault { result ≡ 5 → Rose (K.faults out.old) (K.faults out.new) }
+
+    // `replay`: what was written is the output of the whole phases of the text; after a read fault
+    // that of the phases that were given as a whole; after a write fault that of the phases before
+    // the one of the last line that was given, and a part of its blocks; where there was no memory
+    // that of the phases before the last line that was given.
+    ensures replayed { asked (map string_bytes words.now) ≡ Some AsksReplay → IsByText result
+        → OfText (S.left source.old) (λ b. EndsByFate IsPlain MOST_OCTETS MOST_EVENTS empty b
+        (K.taken out.old) (K.taken out.new) result) }
+    ensures read_output { asked (map string_bytes words.now) ≡ Some AsksReplay → result ≡ 4
+        → OfGiven (S.left source.old) (S.left source.new) (λ given.
+        TakesGiven IsPlain MOST_EVENTS empty given (K.taken out.old) (K.taken out.new)) }
+    ensures write_output { asked (map string_bytes words.now) ≡ Some AsksReplay → result ≡ 5
+        → OfGiven (S.left source.old) (S.left source.new) (λ given.
+        HalfWritten IsPlain MOST_OCTETS MOST_EVENTS empty given (S.left source.new)
+        (K.taken out.old) (K.taken out.new)) }
+    ensures memory_output { asked (map string_bytes words.now) ≡ Some AsksReplay → result ≡ 1
+        → OfGiven (S.left source.old) (S.left source.new) (λ given.
+        StopsShort IsPlain MOST_OCTETS MOST_EVENTS empty given (S.left source.new)
+        (K.taken out.old) (K.taken out.new)) }
+
+    // `check`: the numbers of records and of control records were written where the text is one
+    // that runs; after a write fault a part of them; and else nothing.
+    ensures checked { asked (map string_bytes words.now) ≡ Some AsksCheck → IsByText result
+        → OfText (S.left source.old) (λ b. CountsByFate MOST_OCTETS MOST_EVENTS empty b
+        (K.taken out.old) (K.taken out.new) result) }
+    ensures check_nothing { asked (map string_bytes words.now) ≡ Some AsksCheck
+        → (result ≡ 1) ⊎ (result ≡ 4) → Appends (K.taken out.old) (K.taken out.new) [] }
+    ensures check_part { asked (map string_bytes words.now) ≡ Some AsksCheck → result ≡ 5
+        → OfGiven (S.left source.old) (S.left source.new) (λ given.
+        HalfCounted MOST_OCTETS MOST_EVENTS empty given (S.left source.new)
+        (K.taken out.old) (K.taken out.new)) }
+
+    // The text of the status was taken by `err`, all of it where its count did not rise.
+    ensures said { result ≢ 3 → Says (K.taken err.old) (K.taken err.new)
+        (K.faults err.old) (K.faults err.new) (status_text result) }
+    ensures refused { result ≡ 3 → OfText (S.left source.old) (λ b.
+        Says (K.taken err.old) (K.taken err.new) (K.faults err.old) (K.faults err.new)
+        (refusal_of MOST_OCTETS MOST_EVENTS empty b)) }
+{
+    match form_of(words) {
+        None => {
+            say(err, status_words(2));
+            2
+        }
+        Some(Form::Check) => {
+            let ending = check_within(alloc, MOST_OCTETS, MOST_EVENTS as u64, source, out);
+            told(err, ending)
+        }
+        Some(Form::Replay) => {
+            let ending = replay_within::<A, S, K>(
+                alloc,
+                MOST_OCTETS,
+                MOST_EVENTS as u64,
+                source,
+                out,
+            );
+            told(err, ending)
+        }
+    }
+}
+
+// Says how a run ended, and answers the status.
+fn told<K: Sink>(err: &mut K, ending: Ending) -> u8
+    ensures status { result ≡ status_of ending }
+    ensures said { Says (K.taken err.old) (K.taken err.new) (K.faults err.old) (K.faults err.new)
+        (ending_text ending) }
+{
+    say_ending(err, ending);
+    status(ending)
+}
