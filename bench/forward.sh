@@ -1,6 +1,7 @@
 #!/usr/bin/env bash
 # Counts the instructions of what goes on at each control event and at each data frame: an event of 27 octets kept in the
-# journal, a change of no item published, a frame of 60 octets forwarded from a port with sixteen hosts, of which the last sent it.
+# journal, a change of no item published, a frame of 60 octets decided on by the table, and one forwarded by a worker, both from a
+# port with sixteen hosts, of which the last sent it.
 # Usage: bench/forward.sh; build the program first (`rt run` in crates/forward_bench).
 # Each is the difference of two counts of callgrind; the loop and the call are in it. Then the memory of the longest journal.
 set -eu
@@ -15,7 +16,7 @@ instructions() {
     awk '/Collected/ { print $4 }' "$work/log"
 }
 
-for what in keep post forward; do
+for what in keep post decide forward; do
     few=$(instructions "$what" 1000)
     many=$(instructions "$what" 11000)
     awk -v w="$what" -v f="$few" -v m="$many" 'BEGIN { printf "%s: %.0f instructions\n", w, (m - f) / 10000 }'

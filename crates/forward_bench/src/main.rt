@@ -1,6 +1,7 @@
 //! What history, publishing and forwarding cost. With two words, as `forward 100`, it does one thing so often, for
-//! `bench/forward.sh` to count: `keep` takes events of 27 octets into a journal, `post` publishes changes of no item, and
-//! `forward` decides on frames of 60 octets, which leave tagged. With no word it does each ten times.
+//! `bench/forward.sh` to count: `keep` takes events of 27 octets into a journal, `post` publishes changes of no item,
+//! `decide` asks a table about frames of 60 octets, and `forward` decides on such frames, which leave tagged. With no word it
+//! does each ten times.
 #![tactic(auto)]
 
 ghost use Rattle.std.specs.Prelude.{◌≡◌, ◌<◌, [], false, IfOk};
@@ -10,7 +11,7 @@ ghost use Rattle.auth_publish.specs.Changes.{is_finish};
 use arrayvec::ArrayVec;
 use auth_journal::Journal;
 use auth_publish::{Publisher, Viewer, open};
-use auth_table::{Change, Item, opening};
+use auth_table::{Change, Decision, Item, absorb, decide, opening};
 use event_record::MOST_EVENTS;
 use forward_worker::Worker;
 use machine_vars::Control;
@@ -95,6 +96,25 @@ fn post<R: Wait>(rt: &R, publisher: &mut Publisher, rounds: u32) -> Result<u64, 
     Ok(publisher.post(rt, all_in())?.count())
 }
 
+// How many frames may leave. Each differs from the one before, so that each is looked at.
+fn ask(rounds: u32) -> u32 {
+    let settings = settings();
+    if !settings.valid() {
+        return 0;
+    }
+    let mut table = opening(&settings);
+    absorb(&mut table, &all_in());
+    let mut frame = FRAME;
+    let mut leaving = 0u32;
+    for n in 0..rounds {
+        frame[59] = (n % 256) as u8;
+        if let Decision::Forward { .. } = decide(&table, 1, &frame) {
+            leaving = leaving.wrapping_add(1);
+        }
+    }
+    leaving
+}
+
 // How many octets leave.
 fn forward(worker: &mut Worker, rounds: u32) -> Result<usize, AllocError> {
     let mut out = ArrayVec::new();
@@ -124,10 +144,11 @@ fn main(rt: HostRuntime) -> Result<(), anyhow::Error> {
     let (mut publisher, viewer) = one_viewer(&rt, rt.alloc())?;
     let posts = often("post").min(1_000_000);
     let posted = post(&rt, &mut publisher, posts);
+    let leaving = ask(often("decide"));
     let octets = forward(&mut Worker::new(viewer), often("forward"));
     publisher.end(&rt);
     println!(rt;
-        "{kept} events are kept, {} changes are published, and {} octets leave",
+        "{kept} events are kept, {} changes are published, {leaving} frames may leave, and {} octets do",
         posted?, octets?
     )?;
     Ok(())
