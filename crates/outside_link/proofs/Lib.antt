@@ -1,0 +1,3 @@
+pub mod LinkLemmas
+mod Queues
+mod Stores

@@ -1,0 +1,4 @@
+pub mod Link
+pub mod Clock
+pub mod Post
+pub mod Stored
