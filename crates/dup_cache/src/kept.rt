@@ -1,4 +1,4 @@
-ghost use Rattle.std.specs.Prelude.{◌≡◌, ◌≤◌, ◌<◌, [], length, slice_get, Some, IfOk};
+ghost use Rattle.std.specs.Prelude.{◌≡◌, ◌≤◌, ◌<◌, [], length, slice_get, Some, IfOk, IfSome};
 ghost use Rattle.kept_defs.specs.Kept.{newest_reply, with_newest};
 ghost use Rattle.dup_cache.specs.Reply.{reply_in};
 
@@ -57,9 +57,10 @@ impl Kept {
 
     /// The reply to a request from a source port that was kept last of those that were kept at most 30
     /// seconds before `now`, in seconds, and not after it (RFC 5176, section 2.3). None exactly where
-    /// there is none.
+    /// there is none. It has at most 4,096 octets.
     pub fn look(&self, sport: u16, request: &[u8], now: u64) -> Option<&[u8]>
-        ensures { reply_in result ≡ newest_reply sport request.now now self.now }
+        ensures reply { reply_in result ≡ newest_reply sport request.now now self.now }
+        ensures fits { IfSome result (λ reply. length reply.now ≤ 4096) }
     {
         for n in 0..self.len {
             let slot = self.entry(self.len - 1 - n);

@@ -87,7 +87,7 @@ returns-in-Some-look-clause-line g c =
     ∙ ap (λ (k : Config). is_untrue k.require_ma (message_state_of c.in-Ok.p (zeros 16) c.as_slice-3.result.now)) (sym c.c.view_is)
     ∙ sym c.is_untrue.ensures ∙ c.if-is_untrue.false in
     let kept : newest_reply c.args.from.port (packet_text c.in-Ok.p) c.args.now c.in-Some.replies.now ≡ Some c.in-Some-look.reply.now =
-    ap (λ (text : List ℕ). newest_reply c.args.from.port text c.args.now c.in-Some.replies.now) (sym c.text-2.ensures) ∙ sym c.look.ensures ∙ ap reply_in c.in-Some-look.is in
+    ap (λ (text : List ℕ). newest_reply c.args.from.port text c.args.now c.in-Some.replies.now) (sym c.text-2.ensures) ∙ sym c.look.ensures.reply ∙ ap reply_in c.in-Some-look.is in
     to-again c.args.c.now c.in-Some.client.now c.in-Some.replies.now c.args.now rows c.args.from.port c.in-Ok.p long dynamic auth message c.in-Some-look.reply.now kept ∙ sym whole
 
 pub returns-then-is_stale-clause-line : goal.returns-then-is_stale-clause-line
@@ -106,7 +106,7 @@ returns-then-is_stale-clause-line g c =
     ∙ ap (λ (k : Config). is_untrue k.require_ma (message_state_of c.in-Ok.p (zeros 16) c.as_slice-3.result.now)) (sym c.c.view_is)
     ∙ sym c.is_untrue.ensures ∙ c.if-is_untrue.false in
     let new : newest_reply c.args.from.port (packet_text c.in-Ok.p) c.args.now c.in-Some.replies.now ≡ None =
-    ap (λ (text : List ℕ). newest_reply c.args.from.port text c.args.now c.in-Some.replies.now) (sym c.text-2.ensures) ∙ sym c.look.ensures ∙ ap reply_in c.in_default-look.is in
+    ap (λ (text : List ℕ). newest_reply c.args.from.port text c.args.now c.in-Some.replies.now) (sym c.text-2.ensures) ∙ sym c.look.ensures.reply ∙ ap reply_in c.in_default-look.is in
     let far : is_far c.args.now c.args.c.now.window (first_number EVENT_TIMESTAMP c.in-Ok.p.attributes) ≡ true =
     ap (λ (k : Config). is_far c.args.now k.window (first_number EVENT_TIMESTAMP c.in-Ok.p.attributes)) (sym c.c.view_is) ∙ sym c.is_stale.ensures ∙ c.if-is_stale.true in
     to-stale c.args.c.now c.in-Some.client.now c.in-Some.replies.now c.args.now rows c.args.from.port c.in-Ok.p long dynamic auth message new far ∙ sym whole
@@ -127,7 +127,7 @@ returns-in-Ok-answer-clause-line g c =
     ∙ ap (λ (k : Config). is_untrue k.require_ma (message_state_of c.in-Ok.p (zeros 16) c.as_slice-3.result.now)) (sym c.c.view_is)
     ∙ sym c.is_untrue.ensures ∙ c.if-is_untrue.false in
     let new : newest_reply c.args.from.port (packet_text c.in-Ok.p) c.args.now c.in-Some.replies.now ≡ None =
-    ap (λ (text : List ℕ). newest_reply c.args.from.port text c.args.now c.in-Some.replies.now) (sym c.text-2.ensures) ∙ sym c.look.ensures ∙ ap reply_in c.in_default-look.is in
+    ap (λ (text : List ℕ). newest_reply c.args.from.port text c.args.now c.in-Some.replies.now) (sym c.text-2.ensures) ∙ sym c.look.ensures.reply ∙ ap reply_in c.in_default-look.is in
     let far : is_far c.args.now c.args.c.now.window (first_number EVENT_TIMESTAMP c.in-Ok.p.attributes) ≡ false =
     ap (λ (k : Config). is_far c.args.now k.window (first_number EVENT_TIMESTAMP c.in-Ok.p.attributes)) (sym c.c.view_is) ∙ sym c.is_stale.ensures ∙ c.if-is_stale.false in
     let line : Ack c.in-Ok-answer.action ≡ judged c.args.c.now c.args.kept.now c.args.now rows c.args.from c.args.b.now =
@@ -150,7 +150,7 @@ returns-in-Ok-answer-clause-request g c =
     ∙ ap (λ (k : Config). is_untrue k.require_ma (message_state_of c.in-Ok.p (zeros 16) c.as_slice-3.result.now)) (sym c.c.view_is)
     ∙ sym c.is_untrue.ensures ∙ c.if-is_untrue.false in
     let new : newest_reply c.args.from.port (packet_text c.in-Ok.p) c.args.now c.in-Some.replies.now ≡ None =
-    ap (λ (text : List ℕ). newest_reply c.args.from.port text c.args.now c.in-Some.replies.now) (sym c.text-2.ensures) ∙ sym c.look.ensures ∙ ap reply_in c.in_default-look.is in
+    ap (λ (text : List ℕ). newest_reply c.args.from.port text c.args.now c.in-Some.replies.now) (sym c.text-2.ensures) ∙ sym c.look.ensures.reply ∙ ap reply_in c.in_default-look.is in
     let far : is_far c.args.now c.args.c.now.window (first_number EVENT_TIMESTAMP c.in-Ok.p.attributes) ≡ false =
     ap (λ (k : Config). is_far c.args.now k.window (first_number EVENT_TIMESTAMP c.in-Ok.p.attributes)) (sym c.c.view_is) ∙ sym c.is_stale.ensures ∙ c.if-is_stale.false in
     let line : Ack c.in-Ok-answer.action ≡ judged c.args.c.now c.args.kept.now c.args.now rows c.args.from c.args.b.now =
@@ -173,7 +173,7 @@ returns-in-Err-clause-line g c =
     ∙ ap (λ (k : Config). is_untrue k.require_ma (message_state_of c.in-Ok.p (zeros 16) c.as_slice-3.result.now)) (sym c.c.view_is)
     ∙ sym c.is_untrue.ensures ∙ c.if-is_untrue.false in
     let new : newest_reply c.args.from.port (packet_text c.in-Ok.p) c.args.now c.in-Some.replies.now ≡ None =
-    ap (λ (text : List ℕ). newest_reply c.args.from.port text c.args.now c.in-Some.replies.now) (sym c.text-2.ensures) ∙ sym c.look.ensures ∙ ap reply_in c.in_default-look.is in
+    ap (λ (text : List ℕ). newest_reply c.args.from.port text c.args.now c.in-Some.replies.now) (sym c.text-2.ensures) ∙ sym c.look.ensures.reply ∙ ap reply_in c.in_default-look.is in
     let far : is_far c.args.now c.args.c.now.window (first_number EVENT_TIMESTAMP c.in-Ok.p.attributes) ≡ false =
     ap (λ (k : Config). is_far c.args.now k.window (first_number EVENT_TIMESTAMP c.in-Ok.p.attributes)) (sym c.c.view_is) ∙ sym c.is_stale.ensures ∙ c.if-is_stale.false in
     let line : Nak c.in-Err.cause ≡ judged c.args.c.now c.args.kept.now c.args.now rows c.args.from c.args.b.now =
@@ -196,7 +196,7 @@ returns-in-Err-clause-request g c =
     ∙ ap (λ (k : Config). is_untrue k.require_ma (message_state_of c.in-Ok.p (zeros 16) c.as_slice-3.result.now)) (sym c.c.view_is)
     ∙ sym c.is_untrue.ensures ∙ c.if-is_untrue.false in
     let new : newest_reply c.args.from.port (packet_text c.in-Ok.p) c.args.now c.in-Some.replies.now ≡ None =
-    ap (λ (text : List ℕ). newest_reply c.args.from.port text c.args.now c.in-Some.replies.now) (sym c.text-2.ensures) ∙ sym c.look.ensures ∙ ap reply_in c.in_default-look.is in
+    ap (λ (text : List ℕ). newest_reply c.args.from.port text c.args.now c.in-Some.replies.now) (sym c.text-2.ensures) ∙ sym c.look.ensures.reply ∙ ap reply_in c.in_default-look.is in
     let far : is_far c.args.now c.args.c.now.window (first_number EVENT_TIMESTAMP c.in-Ok.p.attributes) ≡ false =
     ap (λ (k : Config). is_far c.args.now k.window (first_number EVENT_TIMESTAMP c.in-Ok.p.attributes)) (sym c.c.view_is) ∙ sym c.is_stale.ensures ∙ c.if-is_stale.false in
     let line : Nak c.in-Err.cause ≡ judged c.args.c.now c.args.kept.now c.args.now rows c.args.from c.args.b.now =
