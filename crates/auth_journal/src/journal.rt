@@ -39,8 +39,8 @@ impl Model for Journal {
     ghost view = { λ j. record { list = j.entries.items; staged = j.staged } };
 
     ghost invariant = { λ j. (length j.entries.items ≤ MOST_EVENTS)
-      × (IsSome j.staged → (length j.entries.items < MOST_EVENTS)
-      × (length j.entries.items < vec_capacity j.entries)) };
+        × (IsSome j.staged → (length j.entries.items < MOST_EVENTS)
+        × (length j.entries.items < vec_capacity j.entries)) };
 }
 
 impl Journal {

@@ -46,11 +46,11 @@ impl Model for Publisher {
     } };
 
     ghost invariant = { λ p. (drop p.writer.behind p.writer.log.items ≡ [])
-      × IsPlaced p.writer.desk.shown.value.told.name p.writer.desk.place
-      × (p.head ≡ head_of p.writer.desk.shown.value.told.name)
-      × (p.writer.desk.shown.value.table
-      ≡ changed_by (first_of p.writer.desk.place) p.writer.desk.shown.value.told.list)
-      × (front_of p.writer.desk.shown.value.told.list ≤ MOST_EVENTS) };
+        × IsPlaced p.writer.desk.shown.value.told.name p.writer.desk.place
+        × (p.head ≡ head_of p.writer.desk.shown.value.told.name)
+        × (p.writer.desk.shown.value.table
+        ≡ changed_by (first_of p.writer.desk.place) p.writer.desk.shown.value.told.list)
+        × (front_of p.writer.desk.shown.value.told.list ≤ MOST_EVENTS) };
 }
 
 /// A publisher of this table with an empty list, and so many viewers of it, 1 to 8. It waits for

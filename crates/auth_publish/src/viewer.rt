@@ -55,9 +55,9 @@ impl Model for View {
     } };
 
     ghost invariant = { λ v. IsPlaced v.reading.part.value.told.name v.reading.place
-      × (v.reading.part.value.table
-      ≡ changed_by (first_of v.reading.place) v.reading.part.value.told.list)
-      × (finish_is_last v.reading.part.value.told.list ≡ true) };
+        × (v.reading.part.value.table
+        ≡ changed_by (first_of v.reading.place) v.reading.part.value.told.list)
+        × (finish_is_last v.reading.part.value.told.list ≡ true) };
 }
 
 impl Viewer {
