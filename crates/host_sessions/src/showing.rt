@@ -1,6 +1,6 @@
 //! What the sessions show: to dynamic requests, and to those that forward frames.
 
-ghost use Rattle.std.specs.Prelude.{◌≡◌, map, slice_get};
+ghost use Rattle.std.specs.Prelude.{◌≡◌, Some, map, slice_get};
 ghost use Rattle.std.specs.Option.{option_map};
 ghost use Rattle.dynauth_server.specs.Roll as roll;
 ghost use Rattle.host_session.specs.Sits.{right_in};
@@ -14,6 +14,7 @@ ghost use Rattle.host_sessions.specs.Finds.{IsAt};
 
 use crate::sessions::Sessions;
 use dynauth_server::RollRow;
+use wire_core::Mac;
 
 impl Sessions {
     /// The number of the session at a place, and the VLAN that its host is forwarded into, where the
@@ -26,6 +27,14 @@ impl Sessions {
             Some(session) => session.right(restricted),
             None => None,
         }
+    }
+
+    /// The port and the address of the host of the session at a place; none exactly where there is none.
+    pub fn key(&self, at: usize) -> Option<(u8, Mac)>
+        ensures { (y : switch.Session) (s : State) → IsAt at y self.now s →
+            result ≡ Some (y.host.port, record { 0 = y.host.address }) }
+    {
+        self.slots.key(at)
     }
 
     /// What a dynamic request can know the n-th session by, counted from 0 in rising order of numbers;

@@ -1,0 +1,9 @@
+pub mod Stands
+pub mod Does
+pub mod Rows
+pub mod Notes
+pub mod Walked
+pub mod Passing
+pub mod Answering
+pub mod Hearing
+pub mod Acts
