@@ -6,6 +6,3 @@ mod top;
 
 pub use form::{Form, form_of};
 pub use top::switch_top;
-
-#[cfg(test)]
-mod tests;
