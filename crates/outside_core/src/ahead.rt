@@ -1,7 +1,8 @@
 // Octets that were read ahead of their use.
-ghost use Rattle.std.specs.Prelude.{◌≡◌, ◌≤◌, ◌<◌, ◌↔◌, [], ◌∷◌, List, ℕ, ◌++◌, length, take, drop, min, slice_range, IsTrue, OnErr, OnOk, MatchResult};
+ghost use Rattle.std.specs.Prelude.{◌≡◌, ◌≤◌, ◌<◌, ◌==◌, ◌↔◌, position, [], ◌∷◌, List, ℕ, ◌++◌, length, take, drop, min, slice_range, IsTrue, OnErr, OnOk, MatchResult};
 ghost use Rattle.std.specs.Io.{ReadsAtMost};
 ghost use Rattle.std.specs.Io.KnownBytes.{Keeps, Consumes, IsAtEnd, ReadConsumes};
+ghost use Rattle.outside_core.specs.Lines.{StopsAtFeed};
 
 use crate::Failed;
 use std::io::{ErrorKind, Read};
@@ -84,6 +85,19 @@ impl Ahead {
         1
     }
 
+    /// Moves the first octets into `buf`, as many as it has room for and none beyond the first line
+    /// feed, and answers how many.
+    pub fn give_line(&mut self, buf: &mut [u8]) -> usize
+        ensures octets { self.old ≡ take result buf.new ++ self.new }
+        ensures most { result ≤ length buf.old }
+        ensures some { result ≡ 0 → 0 < length buf.old → self.old ≡ [] }
+        ensures line { StopsAtFeed result buf.new }
+    {
+        let rest = &self.octets[self.at..self.end];
+        let count = line_len(&rest[..rest.len().min(buf.len())]);
+        self.give_many(&mut buf[..count])
+    }
+
     fn give_many(&mut self, buf: &mut [u8]) -> usize
         ensures octets { self.old ≡ take result buf.new ++ self.new }
         ensures most { result ≡ min (length self.old) (length buf.old) }
@@ -112,4 +126,22 @@ fn read_again<R: Read>(reader: &mut R, buf: &mut [u8]) -> Result<usize, Failed>
         }
     }
     Err(Failed)
+}
+
+/// How many octets stand up to the first line feed, with it; all where there is none.
+pub fn line_len(octets: &[u8]) -> usize
+    ensures most { result ≤ length octets.now }
+    ensures some { result ≡ 0 → octets.now ≡ [] }
+    ensures line { StopsAtFeed result octets.now }
+{
+    match feed_at(octets) {
+        Some(at) => at + 1,
+        None => octets.len(),
+    }
+}
+
+fn feed_at(octets: &[u8]) -> Option<usize>
+    ensures { result ≡ position (λ octet. octet == 10) octets.now }
+{
+    octets.iter().position(|octet| *octet == b'\n')
 }

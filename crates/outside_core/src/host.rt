@@ -1,7 +1,8 @@
 // A source and a sink over the streams of the host.
-ghost use Rattle.std.specs.Prelude.{◌≡◌, [], length, IfOk};
+ghost use Rattle.std.specs.Prelude.{◌≡◌, [], length, IfOk, OnOk};
 ghost use Rattle.std.specs.Io.{WritesAtMost};
-ghost use Rattle.std.specs.Io.KnownBytes.{WriteAppends, prepend_known};
+ghost use Rattle.std.specs.Io.KnownBytes.{Keeps, IsAtEnd, WriteAppends, prepend_known};
+ghost use Rattle.wire_defs.specs.Outside.{HasCause};
 
 use crate::ahead::Ahead;
 use crate::{Failed, Sink, Source};
@@ -31,6 +32,22 @@ impl<R: Read> StdSource<R> {
             faults: 0,
         }
     }
+
+    // Reads ahead where nothing that was read is left. Then none is left only at the end of input.
+    fn look_ahead(&mut self) -> Result<(), Failed>
+        ensures octets { Keeps (prepend_known self.old.ahead (R.remaining self.old.reader))
+            (prepend_known self.new.ahead (R.remaining self.new.reader)) }
+        ensures end { OnOk result (self.new.ahead ≡ [] → IsAtEnd (R.remaining self.new.reader)) }
+        ensures cause { HasCause self.old.faults self.new.faults result }
+    {
+        if self.ahead.is_empty() {
+            if let Err(Failed) = self.ahead.fill(&mut self.reader) {
+                self.faults = self.faults.saturating_add(1);
+                return Err(Failed);
+            }
+        }
+        Ok(())
+    }
 }
 
 impl<R: Read> Source for StdSource<R> {
@@ -39,13 +56,13 @@ impl<R: Read> Source for StdSource<R> {
     ghost faults = { λ s. s.faults };
 
     fn read(&mut self, buf: &mut [u8]) -> Result<usize, Failed> {
-        if self.ahead.is_empty() {
-            if let Err(Failed) = self.ahead.fill(&mut self.reader) {
-                self.faults = self.faults.saturating_add(1);
-                return Err(Failed);
-            }
-        }
+        self.look_ahead()?;
         Ok(self.ahead.give(buf))
+    }
+
+    fn read_line(&mut self, buf: &mut [u8]) -> Result<usize, Failed> {
+        self.look_ahead()?;
+        Ok(self.ahead.give_line(buf))
     }
 }
 

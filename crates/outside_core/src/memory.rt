@@ -2,7 +2,9 @@ ghost use Rattle.std.specs.Prelude.{◌≡◌, ◌+◌, ◌-◌, ◌<◌, ◌≤
 ghost use Rattle.std.specs.Io.{ReadsAtMost, WritesAtMost};
 ghost use Rattle.std.specs.Io.KnownBytes.{ReadConsumes, WriteAppends};
 ghost use Rattle.wire_defs.specs.Outside.{HasCause, TakesSome, Feed, Drain, after_read, after_write};
+ghost use Rattle.outside_core.specs.Lines.{StopsAtFeed};
 
+use crate::ahead::line_len;
 use crate::{Failed, Sink, Source};
 use std::alloc::{AllocError, Global};
 use std::marker::Model;
@@ -86,6 +88,20 @@ impl Source for MemSource {
         buf[..count].copy_from_slice(&rest[..count]);
         self.at += count;
         Ok(count)
+    }
+
+    fn read_line(&mut self, buf: &mut [u8]) -> Result<usize, Failed>
+        ensures bound { ReadsAtMost result buf.new }
+        ensures octets { ReadConsumes (Some self.old.left) (Some self.new.left) result buf.new }
+        ensures cause { HasCause self.old.faults self.new.faults result }
+        ensures line { IfOk result (λ n. StopsAtFeed n buf.new) }
+        ensures listed { IsErr result ↔ Contains self.old.fails self.old.calls }
+        ensures value { self.new ≡ after_read result self.old }
+    {
+        let rest = &self.octets[self.at..];
+        let most = rest.len().min(buf.len());
+        let count = line_len(&rest[..most]);
+        self.read(&mut buf[..count])
     }
 }
 

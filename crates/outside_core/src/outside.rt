@@ -1,7 +1,8 @@
-ghost use Rattle.std.specs.Prelude.{List, ℕ, Option};
+ghost use Rattle.std.specs.Prelude.{List, ℕ, Option, IfOk};
 ghost use Rattle.std.specs.Io.{ReadsAtMost, WritesAtMost};
 ghost use Rattle.std.specs.Io.KnownBytes.{ReadConsumes, WriteAppends};
 ghost use Rattle.wire_defs.specs.Outside.{HasCause, TakesSome};
+ghost use Rattle.outside_core.specs.Lines.{StopsAtFeed};
 
 /// A call on an object of the outside failed.
 #[derive(Clone, Copy, Debug, PartialEq, Eq)]
@@ -22,6 +23,14 @@ pub trait Source {
         ensures bound { ReadsAtMost result buf.new }
         ensures octets { ReadConsumes (left self.old) (left self.new) result buf.new }
         ensures cause { HasCause (faults self.old) (faults self.new) result };
+
+    /// Reads as [`Source::read`] does, and not beyond the first line feed: where the octets that it
+    /// moved have one, it is their last.
+    fn read_line(&mut self, buf: &mut [u8]) -> Result<usize, Failed>
+        ensures bound { ReadsAtMost result buf.new }
+        ensures octets { ReadConsumes (left self.old) (left self.new) result buf.new }
+        ensures cause { HasCause (faults self.old) (faults self.new) result }
+        ensures line { IfOk result (λ n. StopsAtFeed n buf.new) };
 }
 
 /// Where octets go.

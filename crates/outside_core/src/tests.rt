@@ -19,6 +19,40 @@ fn a_source_in_memory_gives_at_most_a_step_and_fails_where_listed(
     Ok(())
 }
 
+// What a source gives line by line into this buffer, a bar behind each piece.
+fn pieces_of<S: Source>(
+    alloc: Global,
+    source: &mut S,
+    buf: &mut [u8],
+) -> Result<Vec<u8>, AllocError> {
+    let mut seen = Vec::new(alloc);
+    for _ in 0..8 {
+        let count = source.read_line(buf).unwrap_or(0);
+        if count > 0 {
+            for octet in buf.iter().take(count) {
+                seen.push(*octet)?;
+            }
+            seen.push(b'|')?;
+        }
+    }
+    Ok(seen)
+}
+
+#[test]
+fn a_line_is_given_up_to_its_line_feed_and_no_further(rt: HostRuntime) -> Result<(), Fail> {
+    let text = b"ab\n\ncde".as_slice();
+    let mut memory = MemSource::new(rt.alloc(), text, 2, &[])?;
+    let seen = pieces_of(rt.alloc(), &mut memory, &mut [0; 8])?;
+    assert_eq!(rt; seen.as_slice(), b"ab|\n|\n|cd|e|".as_slice());
+    let mut host = StdSource::new(text);
+    let seen = pieces_of(rt.alloc(), &mut host, &mut [0; 8])?;
+    assert_eq!(rt; seen.as_slice(), b"ab\n|\n|cde|".as_slice());
+    let mut host = StdSource::new(text);
+    let seen = pieces_of(rt.alloc(), &mut host, &mut [0; 2])?;
+    assert_eq!(rt; seen.as_slice(), b"ab|\n|\n|cd|e|".as_slice());
+    Ok(())
+}
+
 #[test]
 fn a_sink_in_memory_takes_whole_pieces_within_its_room(rt: HostRuntime) -> Result<(), Fail> {
     let mut sink = MemSink::new(rt.alloc(), 5, &[1])?;

@@ -259,6 +259,11 @@ impl Source for SharedSource<'_> {
             .set(self.shared.given.get().saturating_add(count as u64));
         Ok(count)
     }
+
+    fn read_line(&mut self, buf: &mut [u8]) -> Result<usize, Failed> {
+        let most = buf.len().min(1);
+        self.read(&mut buf[..most])
+    }
 }
 
 #[derive(Drop)]
