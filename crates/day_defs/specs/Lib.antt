@@ -1,0 +1,3 @@
+pub mod Office
+pub mod Server
+pub mod Day
