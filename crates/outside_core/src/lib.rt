@@ -6,11 +6,13 @@ mod gate;
 mod host;
 mod memory;
 mod outside;
+mod sure;
 
 pub use gate::{Gate, NoGate, Point, Who};
 pub use host::{StdSink, StdSource};
 pub use memory::{MemSink, MemSource};
 pub use outside::{Failed, Sink, Source};
+pub use sure::{SureSink, SureSource};
 
 #[cfg(test)]
 mod tests;

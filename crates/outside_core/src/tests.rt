@@ -1,5 +1,5 @@
 // What the objects of the outside give and take, call by call.
-use crate::{Failed, MemSink, MemSource, Sink, Source, StdSink, StdSource};
+use crate::{Failed, MemSink, MemSource, Sink, Source, StdSink, StdSource, SureSink, SureSource};
 use std::alloc::{AllocError, Global};
 use std::io::{self, ErrorKind, Read, Write};
 use std::test::Fail;
@@ -50,6 +50,19 @@ fn a_line_is_given_up_to_its_line_feed_and_no_further(rt: HostRuntime) -> Result
     let mut host = StdSource::new(text);
     let seen = pieces_of(rt.alloc(), &mut host, &mut [0; 2])?;
     assert_eq!(rt; seen.as_slice(), b"ab|\n|\n|cd|e|".as_slice());
+    Ok(())
+}
+
+#[test]
+fn what_does_not_fail_fails_only_where_its_room_ends(rt: HostRuntime) -> Result<(), Fail> {
+    let mut source = SureSource::new(rt.alloc(), b"a\nb", 2)?;
+    let seen = pieces_of(rt.alloc(), &mut source, &mut [0; 8])?;
+    assert_eq!(rt; seen.as_slice(), b"a\n|b|".as_slice());
+    let mut sink = SureSink::new(rt.alloc(), 3)?;
+    assert_eq!(rt; sink.write(b"ab"), Ok(2));
+    assert_eq!(rt; sink.write(b"cd"), Err(Failed));
+    assert_eq!(rt; sink.write(b"c"), Ok(1));
+    assert_eq!(rt; sink.taken(), b"abc".as_slice());
     Ok(())
 }
 

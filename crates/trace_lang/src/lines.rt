@@ -111,11 +111,16 @@ impl Lines {
         Ok(())
     }
 
+    // All octets at once where there is room for them.
     fn append(&mut self, octets: &[u8])
         ensures text { (line : List ℕ) → ReadAlike self.old.text line
             → ReadAlike self.new.text (line ++ octets.now) }
         ensures ended { self.new.ended ≡ self.old.ended }
     {
+        let fit = octets.len() <= MOST_KEPT - self.text.len();
+        if fit && self.text.extend_from_slice(octets).is_ok() {
+            return;
+        }
         for octet in octets {
             self.push(*octet);
         }
