@@ -28,7 +28,7 @@ plain_after fed xs h =
     )
 
 -- no line feed stands before the first
-before_is_plain : (piece : List ℕ) (k : ℕ) → k < length (before_first is_line_feed piece) → eqb (get_or (before_first is_line_feed piece) k 0) 10 ≡ false
+pub before_is_plain : (piece : List ℕ) (k : ℕ) → k < length (before_first is_line_feed piece) → eqb (get_or (before_first is_line_feed piece) k 0) 10 ≡ false
 before_is_plain piece k h =
     let m = position_or_len is_line_feed piece in
     let low : k < m = omega (arith, length-take m piece) in
