@@ -14,16 +14,14 @@ standards and docs/TRACE.md. About a million cases, in traces of some ten thousa
 
 import argparse
 import itertools
-import os
 import random
 import subprocess
 import sys
 
 import packets as p
+from run_cases import PROGRAM
 from script import CLIENT_SECRET, CLOCK, NAS, SECRET, WINDOW, Script, Unforeseen
 
-TOP = os.path.dirname(os.path.dirname(os.path.abspath(__file__)))
-PROGRAM = os.path.join(TOP, "crates", "switch_run", "out", "switch_run")
 HOST = bytes.fromhex("0200000000aa")
 NAME = b"bob"
 RECORDS_A_TRACE = 50000
