@@ -121,7 +121,8 @@ def outside(program):
     found = wrong("race 2 3", (4, b"read fault\n"), stdin=folder, stdout=subprocess.PIPE)
     yield "a source that fails", found
     with open("/dev/full", "wb") as full:
-        yield "a sink that fails", wrong("race 2 3", (5, b"write fault\n"), input=trace, stdout=full)
+        found = wrong("race 2 3", (5, b"write fault\n"), input=trace, stdout=full)
+    yield "a sink that fails", found
 
 
 def main():
