@@ -22,9 +22,9 @@ few=$(count 960 0 0 1)
 many=$(count 960 0 0 2)
 echo "$few $many" | awk '{ printf "instructions of a login: %.0f, of which %.0f in MD5\n", ($3 - $1) / 960, ($4 - $2) / 960 }'
 
-few=$(count 960 0 1000)
-many=$(count 960 0 2000)
-echo "$few $many" | awk '{ printf "instructions of an idle session and second: %.1f\n", ($3 - $1) / 960 / 1000 }'
+few=$(count 960 0 0)
+many=$(count 960 0 10000)
+echo "$few $many" | awk '{ printf "instructions of an idle session and second: %.1f\n", ($3 - $1) / 960 / 10000 }'
 
 python3 bench/login_trace.py 960 10 10000 > "$work/trace"
 start=$(date +%s.%N)
