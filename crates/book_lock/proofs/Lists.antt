@@ -123,14 +123,6 @@ room_left opening log old new e is longer short =
     let b : length new ≡ length old + 1 = ap length longer ∙ length-append old (e ∷ []) in
     omega arith
 
-pub ok_widens : {T E : Type 0} (P Q : T → Type 0) (r : Result T E) → ((x : T) → P x → Q x) → IfOk r P → IfOk r Q
-ok_widens P Q (Ok x) h p = h x p
-ok_widens P Q (Err e) h p = tt
-
-pub err_widens : {T E : Type 0} (P Q : E → Type 0) (r : Result T E) → ((x : E) → P x → Q x) → IfErr r P → IfErr r Q
-err_widens P Q (Ok x) h p = tt
-err_widens P Q (Err e) h p = h e p
-
 pub gathered_snoc : {A C : Type 0} (f : A → List C) (xs : List A) (a : A) → gathered f (xs ++ a ∷ []) ≡ gathered f xs ++ f a
 gathered_snoc f [] a = append-nil (f a)
 gathered_snoc f (x ∷ xs) a = ap (λ l. f x ++ l) (gathered_snoc f xs a) ∙ sym (append_assoc (f x) (gathered f xs) (f a))

@@ -6,6 +6,7 @@ use mathlib.Core.Option as maybe
 use lib.ListN.{get_elem?}
 use Rattle.atomic_table.specs.Table.{State, Me, rest}
 use Rattle.event_record.specs.Entry.{Entry}
+use Rattle.switch_event.specs.Sent.{Sent}
 use Rattle.book_lock.specs.declared.law.Base.{Base}
 use Rattle.book_lock.specs.declared.law.Made.{Made}
 use Rattle.book_lock.specs.declared.law.Turns.{Turns}
@@ -74,6 +75,19 @@ module _ {F : Type 0} where
   -- it holds no ticket and has a part
   abbrev pub IsFree : Turns F → Type 0
   IsFree v = (v.ticket ≡ None) × (v.turn ≡ false) × (0 < v.parts)
+
+-- a seat before and after a turn whose event was accepted: it has one entry more, at a place above those of its others, and the answer
+-- and what is sent are those of the entry after the list at that turn
+abbrev pub WasAccepted : {F A : Type 0} → (F → List Entry → Entry → A → Type 0) → (F → List Entry → Entry → List Sent)
+    → Entry → (old new : Turns F) → A → List Sent → Type 0
+WasAccepted answers sends e old new a sent =
+    (before : List Entry) × (new ≡ added e before old) × Each (λ m. m.place < length before) old.entries
+    × ((y : Base _) → old.base ≡ Some y → answers y.fixed (y.opening ++ before) e a × (sent ≡ sends y.fixed (y.opening ++ before) e))
+
+-- and one whose event was refused: it notes how many entries more the list had than as the lock was opened, and nothing is sent
+abbrev pub WasRefused : {F R : Type 0} → (F → ℕ → R → Type 0) → (old new : Turns F) → R → List Sent → Type 0
+WasRefused refuses old new r sent =
+    (n : ℕ) × (new ≡ passed n old) × (sent ≡ []) × ((y : Base _) → old.base ≡ Some y → refuses y.fixed (length y.opening + n) r)
 
 -- what a seat knows is true: serving is word 1, q the number of tickets held, count word 2, and log all entries by place
 module _ {F : Type 0} (x : Base F) (serving q count : ℕ) (log : List Entry) where

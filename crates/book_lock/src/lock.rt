@@ -4,13 +4,14 @@ ghost use Rattle.event_record.specs.Entry.{Entry, entry_of};
 ghost use Rattle.book_lock.specs.declared.law.Base.{Base};
 ghost use Rattle.book_lock.specs.Sums.{total, top, gathered, Each, lanes_up};
 ghost use Rattle.book_lock.specs.Places.{Stands, times_at};
-ghost use Rattle.book_lock.specs.Rules.{base_of, IsFree, Whole, opened, passed, added};
+ghost use Rattle.book_lock.specs.Rules.{base_of, IsFree, Whole, opened, WasAccepted, WasRefused};
 
 use crate::booked::Booked;
 use crate::law::{Chair, Cuts, Desk, Joins, Law, Turns};
 use crate::steps::run;
 use atomic_table::{Refused, Table};
 use out_tray::Tray;
+use outside_core::{Gate, NoGate};
 use std::alloc::{AllocError, AllocFailed, Global};
 use std::marker::Brand;
 use std::snapshot::Snapshot;
@@ -79,7 +80,7 @@ impl<B: Booked> BookLock<B> {
     /// Waits for the lane's turn, and offers the event to the book. The answer and the tray are
     /// those that belong to the event after the list at that turn, and the place of the entry is
     /// above those of the lane's earlier ones. A refusal records nothing but how long the list then
-    /// was.
+    /// was, and clears the tray.
     pub fn turn<R: Wait>(
         &self,
         rt: &R,
@@ -93,21 +94,36 @@ impl<B: Booked> BookLock<B> {
         ensures same { (seat.new.chair.table_id ≡ seat.old.chair.table_id)
             × (seat.new.lane ≡ seat.old.lane) }
         ensures tray { tray.new.sessions ≡ tray.old.sessions }
-        ensures accepted { IfOk result (λ a. (before : List Entry)
-            × (seat.new.chair.me.0 ≡ added
-            (entry_of seat.old.lane e.now) before seat.old.chair.me.0)
-            × Each (λ m. m.place < length before) seat.old.chair.me.0.entries × ((y : Base B.Fixed)
-            → seat.old.chair.me.0.base ≡ Some y
-            → B.answers y.fixed (y.opening ++ before) (entry_of seat.old.lane e.now) a
-            × (tray.new.items ≡ B.sends y.fixed (y.opening ++ before)
-            (entry_of seat.old.lane e.now)))) }
-        ensures refused { IfErr result (λ r. (n : ℕ)
-            × (seat.new.chair.me.0 ≡ passed n seat.old.chair.me.0) × (tray.new.items ≡ [])
-            × ((y : Base B.Fixed) → seat.old.chair.me.0.base ≡ Some y
-            → B.refuses y.fixed (length y.opening + n) r)) }
+        ensures accepted { IfOk result (λ a. WasAccepted B.answers B.sends
+            (entry_of seat.old.lane e.now) seat.old.chair.me.0 seat.new.chair.me.0 a tray.new.items) }
+        ensures refused { IfErr result (λ r. WasRefused B.refuses
+            seat.old.chair.me.0 seat.new.chair.me.0 r tray.new.items) }
+    {
+        self.turn_at(rt, &NoGate, seat, e, tray)
+    }
+
+    /// As `turn`, and the gate is called by the lane at Held, while it holds the book.
+    pub fn turn_at<R: Wait, G: Gate>(
+        &self,
+        rt: &R,
+        gate: &G,
+        seat: &mut LaneSeat<B>,
+        e: &Event<'_>,
+        tray: &mut Tray,
+    ) -> Result<B::Answer, B::Refusal>
+        requires lock { seat.old.chair.table_id ≡ self.now.table.shared.table_id }
+        requires admitted { (y : Base B.Fixed) × (seat.old.chair.me.0.base ≡ Some y)
+            × B.admits y.fixed (entry_of seat.old.lane e.now) tray.old.sessions }
+        ensures same { (seat.new.chair.table_id ≡ seat.old.chair.table_id)
+            × (seat.new.lane ≡ seat.old.lane) }
+        ensures tray { tray.new.sessions ≡ tray.old.sessions }
+        ensures accepted { IfOk result (λ a. WasAccepted B.answers B.sends
+            (entry_of seat.old.lane e.now) seat.old.chair.me.0 seat.new.chair.me.0 a tray.new.items) }
+        ensures refused { IfErr result (λ r. WasRefused B.refuses
+            seat.old.chair.me.0 seat.new.chair.me.0 r tray.new.items) }
     {
         let lane = seat.lane;
-        run::<B, Brand, R>(rt, &self.table.shared, &mut seat.chair, lane, e, tray)
+        run::<B, Brand, R, G>(rt, gate, &self.table.shared, &mut seat.chair, lane, e, tray)
     }
 
     /// The book, where all seats are given back. What was added to its list is the entries of the

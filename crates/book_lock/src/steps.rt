@@ -3,12 +3,13 @@ ghost use Rattle.std.specs.Prelude.{◌≡◌, ◌+◌, ◌<◌, [], ◌∷◌, 
 ghost use Rattle.event_record.specs.Entry.{Entry, entry_of};
 ghost use Rattle.book_lock.specs.declared.law.Base.{Base};
 ghost use Rattle.book_lock.specs.Sums.{Each};
-ghost use Rattle.book_lock.specs.Rules.{IsFree, Taken, Holds, drawn, recorded, passed, added};
+ghost use Rattle.book_lock.specs.Rules.{IsFree, Taken, Holds, WasAccepted, WasRefused, drawn, recorded, passed};
 
 use crate::booked::Booked;
 use crate::law::{Chair, Desk, Draws, Looks, Passes, Recording, Records, Refuses};
 use event_record::MOST_EVENTS;
 use out_tray::Tray;
+use outside_core::{Gate, Point, Who};
 use std::sync::Wait;
 use std::thread;
 use switch_event::Event;
@@ -81,9 +82,10 @@ fn pass_refused<B: Booked>(desk: &Desk<B>, chair: &mut Chair<B>)
     desk.fetch_add::<Refuses>(chair, 1, 1);
 }
 
-// One turn: a ticket, the book, the event, its entry if it was accepted, and the book back.
-pub fn run<B: Booked, J: Recording, R: Wait>(
+// One turn: a ticket, the book, the gate, the event, its entry if it was accepted, and the book back.
+pub fn run<B: Booked, J: Recording, R: Wait, G: Gate>(
     rt: &R,
+    gate: &G,
     desk: &Desk<B>,
     chair: &mut Chair<B>,
     lane: u8,
@@ -97,18 +99,15 @@ pub fn run<B: Booked, J: Recording, R: Wait>(
         × B.admits y.fixed (entry_of lane e.now) tray.old.sessions }
     ensures same { (chair.new.table_id ≡ chair.old.table_id) × (chair.new.id ≡ chair.old.id) }
     ensures tray { tray.new.sessions ≡ tray.old.sessions }
-    ensures accepted { IfOk result (λ a. (before : List Entry)
-        × (chair.new.me ≡ (added (entry_of lane e.now) before chair.old.me.0, []))
-        × Each (λ m. m.place < length before) chair.old.me.0.entries × ((y : Base B.Fixed)
-        → chair.old.me.0.base ≡ Some y
-        → B.answers y.fixed (y.opening ++ before) (entry_of lane e.now) a
-        × (tray.new.items ≡ B.sends y.fixed (y.opening ++ before) (entry_of lane e.now)))) }
-    ensures refused { IfErr result (λ r. (n : ℕ) × (chair.new.me ≡ (passed n chair.old.me.0, []))
-        × (tray.new.items ≡ []) × ((y : Base B.Fixed) → chair.old.me.0.base ≡ Some y
-        → B.refuses y.fixed (length y.opening + n) r)) }
+    ensures home { chair.new.me.1 ≡ [] }
+    ensures accepted { IfOk result (λ a. WasAccepted B.answers B.sends (entry_of lane e.now)
+        chair.old.me.0 chair.new.me.0 a tray.new.items) }
+    ensures refused { IfErr result (λ r. WasRefused B.refuses
+        chair.old.me.0 chair.new.me.0 r tray.new.items) }
 {
     let mine = draw(desk, chair);
     let mut book = wait_and_take(rt, desk, chair, mine);
+    gate.at(Who::Lane(lane), Point::Held);
     match book.control(rt, lane, e, tray) {
         Ok(answer) => {
             record::<B, J>(desk, chair);

@@ -6,6 +6,7 @@ ghost use Rattle.book_lock.specs.Sums.{total};
 use crate::{BookLock, Booked, LaneSeat};
 use event_record::Entry;
 use out_tray::Tray;
+use outside_core::{Gate, Point, Who};
 use std::alloc::{AllocError, Global};
 use std::sync::Wait;
 use std::sync::atomic::{AtomicU64, Ordering};
@@ -66,11 +67,27 @@ impl Booked for Ledger {
     }
 }
 
+// A gate that counts how often each lane holds the book.
+#[derive(Drop)]
+struct Held {
+    lanes: [AtomicU64; 3],
+}
+
+impl Gate for Held {
+    fn at(&self, who: Who, point: Point) {
+        if let (Who::Lane(lane), Point::Held) = (who, point) {
+            let lane = usize::from(lane.wrapping_sub(1)).min(2);
+            self.lanes[lane].fetch_add(1, Ordering::SeqCst);
+        }
+    }
+}
+
 // Offers events, of which the sockets go round, until one is refused. Answers that do not rise are counted as wrong.
 fn run<R: Wait>(
     rt: &R,
     alloc: Global,
     lock: &BookLock<Ledger>,
+    gate: &Held,
     seat: &mut LaneSeat<Ledger>,
     wrong: &AtomicU64,
 )
@@ -89,7 +106,7 @@ fn run<R: Wait>(
             socket: round % SOCKETS,
             octets: &[],
         };
-        match lock.turn(rt, seat, &event, &mut tray) {
+        match lock.turn_at(rt, gate, seat, &event, &mut tray) {
             Ok(answer) => {
                 if answer < next {
                     wrong.fetch_add(1, Ordering::SeqCst);
@@ -108,6 +125,7 @@ fn run_lanes<R: Threads + Wait + Sync>(
     rt: &R,
     alloc: Global,
     lock: &BookLock<Ledger>,
+    gate: &Held,
     seats: &mut [LaneSeat<Ledger>],
     wrong: &AtomicU64,
 )
@@ -126,7 +144,7 @@ fn run_lanes<R: Threads + Wait + Sync>(
                 × ((y : Base ℕ) × (seat.now.chair.me.0.base ≡ Some y)) }
             ensures { (seat.exit.now.chair.table_id ≡ seat.entry.now.chair.table_id)
                 × (seat.exit.now.chair.me.0.parts ≡ seat.entry.now.chair.me.0.parts) }
-        { run(rt, alloc, lock, seat, wrong) },
+        { run(rt, alloc, lock, gate, seat, wrong) },
     );
 }
 
@@ -140,10 +158,16 @@ fn three_lanes_in_threads_take_turns(rt: HostRuntime) -> Result<(), Fail> {
         return Err(Fail::from(AllocError));
     };
     let wrong = AtomicU64::new(0);
-    run_lanes(&rt, rt.alloc(), &lock, seats.as_mut_slice(), &wrong);
+    let gate = Held {
+        lanes: [AtomicU64::new(0), AtomicU64::new(0), AtomicU64::new(0)],
+    };
+    run_lanes(&rt, rt.alloc(), &lock, &gate, seats.as_mut_slice(), &wrong);
     let ledger = lock.close(seats);
     assert_eq!(rt; wrong.load(Ordering::SeqCst), 0);
     assert_eq!(rt; ledger.entries.len(), 600);
+    for held in gate.lanes.iter() {
+        assert_eq!(rt; held.load(Ordering::SeqCst), u64::from(EACH));
+    }
     let mut rounds = [0u8; 3];
     for entry in ledger.entries.iter() {
         let lane = usize::from(entry.lane().wrapping_sub(1)).min(2);

@@ -1,5 +1,5 @@
 -- What a lock knows of the book in it.
-use Rattle.std.specs.Prelude.{◌≡◌, ◌≢◌, ℕ, ◌+◌, ◌<◌, ◌≤◌, List, [], ◌∷◌, ◌++◌, length, Some}
+use Rattle.std.specs.Prelude.{◌≡◌, ◌≢◌, ℕ, ◌≤◌, List, [], ◌∷◌, ◌++◌, length}
 use Rattle.event_record.specs.declared.TheConstants.{MOST_EVENTS}
 use Rattle.event_record.specs.Entry.{Entry}
 use Rattle.switch_event.specs.Sent.{Sent}
@@ -10,11 +10,10 @@ use Rattle.auth_journal.specs.declared.journal.JournalErr.TheVariants.{Full, NoM
 use Rattle.authenticator.specs.Meaning.{IsEvent}
 use Rattle.book_lock.specs.declared.law.Base.{Base}
 use Rattle.book_lock.specs.declared.law.Turns.{Turns}
-use Rattle.book_lock.specs.Sums.{Each}
-use Rattle.book_lock.specs.Rules.{added, passed}
+use Rattle.book_lock.specs.Rules as lock
 use Rattle.switch_book.specs.Book.{Book, reply_after}
 use Rattle.switch_book.specs.declared.book.Answer.{Answer}
-use Rattle.switch_book.specs.declared.gated.Fixed.{Fixed}
+use Rattle.switch_book.specs.declared.open_book.Fixed.{Fixed}
 
 abbrev pub fixed_of : Book → Fixed
 fixed_of b = record { config = b.config; name = b.name }
@@ -46,14 +45,9 @@ MayRefuse n NoMemory = n ≢ MOST_EVENTS
 abbrev pub based : Book → Base Fixed
 based b = record { fixed = fixed_of b; opening = b.list }
 
--- a lane before and after an event that was accepted: it has one entry more, at a place above those of its others, and the answer
--- and what is sent are those of that place
+-- a lane before and after an event that was accepted, and one that was refused
 abbrev pub Accepted : Entry → Turns Fixed → Turns Fixed → Answer → List Sent → Type 0
-Accepted e old new a sent =
-    (before : List Entry) × (new ≡ added e before old) × Each (λ m. m.place < length before) old.entries
-    × ((y : Base Fixed) → old.base ≡ Some y → Answers y.fixed (y.opening ++ before) e a × (sent ≡ sends y.fixed (y.opening ++ before) e))
+Accepted e old new a sent = lock.WasAccepted Answers sends e old new a sent
 
--- and after one that was refused, where the history had n entries more than as the lock was opened
 abbrev pub Refused : Turns Fixed → Turns Fixed → JournalErr → List Sent → Type 0
-Refused old new r sent =
-    (n : ℕ) × (new ≡ passed n old) × (sent ≡ []) × ((y : Base Fixed) → old.base ≡ Some y → MayRefuse (length y.opening + n) r)
+Refused old new r sent = lock.WasRefused (λ f n s. MayRefuse n s) old new r sent

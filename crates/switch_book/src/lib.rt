@@ -3,11 +3,11 @@
 #![tactic(auto)]
 
 pub mod book;
-pub mod gated;
+pub mod open_book;
 pub mod switch;
 
 pub use auth_journal::JournalErr;
 pub use book::{Answer, Book, BookErr};
 pub use book_lock::{BookLock, Booked, LaneSeat};
-pub use gated::{Fixed, Gated};
+pub use open_book::{Fixed, OpenBook};
 pub use switch::{Lane, Switch};

@@ -6,28 +6,27 @@ ghost use Rattle.table_defs.specs.Table.{opening_table};
 ghost use Rattle.book_lock.specs.declared.law.Base.{Base};
 ghost use Rattle.book_lock.specs.Sums.{total, top, gathered, lanes_up};
 ghost use Rattle.book_lock.specs.Rules.{Whole};
-ghost use Rattle.switch_book.specs.declared.gated.Fixed.{Fixed};
+ghost use Rattle.switch_book.specs.declared.open_book.Fixed.{Fixed};
 ghost use Rattle.switch_book.specs.Book.{opened};
 ghost use Rattle.switch_book.specs.Locked.{Accepted, Admits, Refused, based, fixed_of, list_of};
 
 use crate::book::{Answer, Book};
-use crate::gated::Gated;
+use crate::open_book::OpenBook;
 use auth_journal::JournalErr;
 use authenticator::Authenticator;
 use book_lock::{BookLock, LaneSeat};
 use forward_worker::Worker;
 use out_tray::Tray;
-use outside_core::NoGate;
 use std::alloc::{AllocError, Global};
 use std::sync::Wait;
 use switch_event::{Config, Event};
 
 /// A lane's right to use a switch.
-pub type Lane<A> = LaneSeat<Gated<A, NoGate>>;
+pub type Lane<A> = LaneSeat<OpenBook<A>>;
 
 /// A book under a lock. It is not Drop: end it by `close`, and the book that this gives by `Book::end`.
 pub struct Switch<A: Authenticator + Drop> {
-    lock: BookLock<Gated<A, NoGate>>,
+    lock: BookLock<OpenBook<A>>,
 }
 
 impl<A: Authenticator + Drop> Switch<A> {
@@ -59,11 +58,10 @@ impl<A: Authenticator + Drop> Switch<A> {
             × (w.first ≡ opening_table config) × (w.list ≡ [])) r.2.items) }
     {
         let (book, all) = Book::open(rt, alloc, config, workers)?;
-        let gated = Gated { book, gate: NoGate };
-        match BookLock::open(alloc, gated, lanes) {
+        match BookLock::open(alloc, OpenBook { book }, lanes) {
             Ok((lock, seats)) => Ok((Switch { lock }, seats, all)),
-            Err((error, gated)) => {
-                gated.into_book().end(rt);
+            Err((error, back)) => {
+                back.into_book().end(rt);
                 Err(error)
             }
         }

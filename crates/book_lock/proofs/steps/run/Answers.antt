@@ -65,7 +65,7 @@ returns-in-Err-clause-refused g c =
     let full = c.put_back-in-Err.ensures.full in
     let view = ap (λ m. m.0) full ∙ ap (λ m. m.0) t.is in (
       length t.log,
-      c.pass_refused.ensures.passed ∙ ((λ i. (passed (length (view i).found) (view i), [])) ∙ ap (λ m. (passed (length t.log) m.0, [])) drew),
+      ap (λ m. m.0) c.pass_refused.ensures.passed ∙ ((λ i. passed (length (view i).found) (view i)) ∙ ap (λ m. passed (length t.log) m.0) drew),
       c.in-Err.ensures.refused.1,
       (λ y base.
           let before = t.book y (ap (λ m. m.0.base) drew ∙ base) in

@@ -1,4 +1,4 @@
-//! What is locked: a book that is not finished, and a gate that is called while a lane holds it.
+//! What is locked: a book that is not finished.
 ghost use Rattle.std.specs.Prelude.{◌≡◌, false};
 
 use crate::book::{Answer, Book, BookErr};
@@ -7,7 +7,6 @@ use auth_publish::PublisherName;
 use authenticator::Authenticator;
 use book_lock::Booked;
 use out_tray::Tray;
-use outside_core::{Gate, Point, Who};
 use std::sync::Wait;
 use switch_event::{Config, Event};
 
@@ -17,25 +16,24 @@ pub struct Fixed {
     pub name: PublisherName,
 }
 
-/// A book that is not finished, and a gate. It is not Drop, since a book is not.
-pub struct Gated<A: Authenticator + Drop, G: Gate> {
+/// A book that is not finished. It is not Drop, since a book is not.
+pub struct OpenBook<A: Authenticator + Drop> {
     pub book: Book<A>,
-    pub gate: G,
     ghost open: { book.finished ≡ false },
 }
 
-impl<A: Authenticator + Drop, G: Gate + Drop> Gated<A, G> {
+impl<A: Authenticator + Drop> OpenBook<A> {
     /// The book, which is not finished.
     pub fn into_book(self) -> Book<A>
         ensures { (result ≡ self.book) × (result.finished ≡ false) }
     {
-        let Self { book, gate: _gate } = self;
+        let Self { book } = self;
         book
     }
 }
 
-/// The gate is called, and then the book. Since the book is not finished, no refusal is `Closed`.
-impl<A: Authenticator + Drop, G: Gate> Booked for Gated<A, G> {
+/// Since the book is not finished, no refusal is `Closed`.
+impl<A: Authenticator + Drop> Booked for OpenBook<A> {
     ghost use Rattle.switch_book.specs.Locked.{fixed_of, list_of, Admits, Answers, sends, MayRefuse};
 
     type Fixed = Fixed;
@@ -63,7 +61,6 @@ impl<A: Authenticator + Drop, G: Gate> Booked for Gated<A, G> {
         e: &Event<'_>,
         tray: &mut Tray,
     ) -> Result<Answer, JournalErr> {
-        self.gate.at(Who::Lane(lane), Point::Held);
         match self.book.control(rt, lane, e, tray) {
             Ok(answer) => Ok(answer),
             Err(BookErr::Full { events }) => Err(JournalErr::Full { events }),

@@ -1,5 +1,5 @@
 use Rattle.event_record.specs.Entry.{entry_of}
-use Rattle.book_lock.proofs.lock.BookLock.turn.Given as goal
+use Rattle.book_lock.proofs.lock.BookLock.turn_at.Given as goal
 
 -- the entry of this event
 abbrev pub ghosts-run : goal.ghosts-run
