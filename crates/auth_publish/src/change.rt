@@ -1,14 +1,14 @@
 //! A change as it is kept until both copies of the table have it.
-ghost use Rattle.std.specs.Prelude.{◌≡◌, IfOk};
-ghost use Rattle.table_defs.specs.Table.{Finish, changed};
-ghost use Rattle.auth_table.specs.Meaning.{change_of};
+ghost use Rattle.std.specs.Prelude.{◌≡◌, map, IfOk};
+ghost use Rattle.table_defs.specs.Table.{Items, Finish, changed};
+ghost use Rattle.auth_table.specs.Meaning.{item_of};
 ghost use Rattle.auth_publish.specs.Changes.{is_finish};
 
-use auth_table::{Change, Item, Table, absorb_all};
+use auth_table::{Item, Table, absorb};
 use std::alloc::{AllocError, Global};
 use std::marker::Model;
 
-/// The items of a change alone, in memory for just so many, or the end. Contracts see the change.
+/// The items of a change, in memory for just so many, or the end. Contracts see the change.
 #[derive(Drop)]
 pub struct Posted {
     items: Vec<Item>,
@@ -25,16 +25,14 @@ impl Model for Posted {
 }
 
 impl Posted {
-    pub(crate) fn of(alloc: Global, change: &Change) -> Result<Posted, AllocError>
-        ensures { IfOk result (λ p. p ≡ change_of change.now) }
+    // It takes memory for as many items as there are.
+    pub(crate) fn of(alloc: Global, items: &[Item]) -> Result<Posted, AllocError>
+        ensures { IfOk result (λ p. p ≡ Items (map item_of items.now)) }
     {
-        match change {
-            Change::Event(items) => Ok(Posted {
-                items: items.as_slice().to_vec(alloc)?,
-                ends: false,
-            }),
-            Change::Finish => Ok(Posted::finish(alloc)),
-        }
+        Ok(Posted {
+            items: items.to_vec(alloc)?,
+            ends: false,
+        })
     }
 
     pub(crate) fn finish(alloc: Global) -> Posted
@@ -57,7 +55,7 @@ impl Posted {
         ensures { table.new ≡ changed table.old self.now }
     {
         if !self.ends {
-            absorb_all(table, &self.items);
+            absorb(table, &self.items);
         }
     }
 }

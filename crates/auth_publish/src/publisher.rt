@@ -1,8 +1,8 @@
 //! The publisher.
-ghost use Rattle.std.specs.Prelude.{◌≡◌, ◌<◌, ◌≤◌, [], ◌∷◌, ◌++◌, true, false, length, drop, fold, All, IfOk, IsOk, OnErr};
-ghost use Rattle.table_defs.specs.Table.{Finish, changed_by};
-ghost use Rattle.auth_table.specs.Meaning.{change_of};
-ghost use Rattle.auth_publish.specs.Changes.{is_finish, is_open, front_of};
+ghost use Rattle.std.specs.Prelude.{◌≡◌, ◌<◌, ◌≤◌, [], ◌∷◌, ◌++◌, true, false, length, map, drop, fold, All, IfOk, IsOk, OnErr};
+ghost use Rattle.table_defs.specs.Table.{Items, Finish, changed_by};
+ghost use Rattle.auth_table.specs.Meaning.{item_of};
+ghost use Rattle.auth_publish.specs.Changes.{is_open, front_of};
 ghost use Rattle.auth_publish.specs.Deeds.{done, IsNext};
 ghost use Rattle.auth_publish.specs.Rules.{known_by, first_of, IsPlaced};
 
@@ -10,7 +10,7 @@ use crate::change::Posted;
 use crate::receipt::{Head, Receipt, begin};
 use crate::rule::{Arrives, Begins, Copies, Deed, Law, Opening, Posts, Published};
 use crate::viewer::Viewer;
-use auth_table::{Change, Table};
+use auth_table::{Item, Table};
 use core::mem::replace_with;
 use event_record::MOST_EVENTS;
 use left_right::writer::Writer;
@@ -160,19 +160,20 @@ impl Publisher {
     }
 
     #[tactic(auto, using(crate::proofs::Lists::open_more))]
-    /// Publishes a change that is not Finish, and gives a receipt of the list that ends with it. It
-    /// may wait for viewers that are inside. Where there is no memory the list is as before.
-    pub fn post<R: Wait>(&mut self, rt: &R, c: Change) -> Result<Receipt, AllocError>
+    /// Publishes the change of these items, and gives a receipt of the list that ends with it. It takes
+    /// memory for as many items as there are, and may wait for viewers that are inside. Where there is
+    /// no memory the list is as before.
+    pub fn post<R: Wait>(&mut self, rt: &R, items: &[Item]) -> Result<Receipt, AllocError>
         requires open { is_open self.old.list ≡ true }
-        requires change { is_finish (change_of c) ≡ false }
         requires room { length self.old.list < MOST_EVENTS }
         ensures same { (self.new.name ≡ self.old.name) × (self.new.first ≡ self.old.first) }
-        ensures published { IfOk result (λ r. self.new.list ≡ self.old.list ++ change_of c ∷ []) }
+        ensures published { IfOk result (λ r.
+            self.new.list ≡ self.old.list ++ Items (map item_of items.now) ∷ []) }
         ensures open { IfOk result (λ r. is_open self.new.list ≡ true) }
         ensures receipt { IfOk result (λ r. (r.name ≡ self.new.name) × (r.list ≡ self.new.list)) }
         ensures refused { OnErr result (self.new ≡ self.old) }
     {
-        let change = Posted::of(self.alloc, &c)?;
+        let change = Posted::of(self.alloc, items)?;
         self.publish(rt, change)
     }
 

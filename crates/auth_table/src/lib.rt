@@ -6,9 +6,9 @@ mod change;
 mod row;
 mod table;
 
-pub use change::{Change, Item, MOST_ITEMS};
+pub use change::Item;
 pub use switch_event::{Decision, Drop9};
-pub use table::{Table, absorb, absorb_all, can_absorb, decide, opening};
+pub use table::{Table, absorb, can_absorb, decide, opening};
 
 #[cfg(test)]
 mod tests;

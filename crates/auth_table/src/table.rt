@@ -7,10 +7,10 @@ ghost use Rattle.switch_event.specs.Config.{is_valid};
 ghost use Rattle.eth_frame.specs.Frame.{fields};
 ghost use Rattle.switch_defs.specs.Decide.{checks, first_drop as first_drop_lem};
 ghost use Rattle.table_defs.specs.Table as model;
-ghost use Rattle.auth_table.specs.Meaning.{item_of, change_of, ForwardsTagged, row_at};
+ghost use Rattle.auth_table.specs.Meaning.{item_of, ForwardsTagged, row_at};
 
+use crate::Item;
 use crate::row::PortRow;
-use crate::{Change, Item};
 use eth_frame::{EthDrop, Frame};
 use machine_vars::Control;
 use std::array;
@@ -144,18 +144,9 @@ fn conf_of(number: usize, ports: &[PortConf]) -> Option<PortConf>
         .copied()
 }
 
-/// Does the items of a change in order; the end changes nothing. An item that does not fit changes nothing: one of a
-/// port that is not configured, guests without a guest VLAN, a VLAN that is none, a seventeenth address.
-pub fn absorb(t: &mut Table, c: &Change)
-    ensures { t.new ≡ model.changed t.old (change_of c.now) }
-{
-    if let Change::Event(items) = c {
-        absorb_all(t, items.as_slice());
-    }
-}
-
-/// Does items in order, as `absorb` does those of a change.
-pub fn absorb_all(t: &mut Table, items: &[Item])
+/// Does the items in order. An item that does not fit changes nothing: one of a port that is not configured, guests
+/// without a guest VLAN, a VLAN that is none, a seventeenth address.
+pub fn absorb(t: &mut Table, items: &[Item])
     ensures { t.new ≡ model.all_absorbed t.old (map item_of items.now) }
 {
     for item in items {

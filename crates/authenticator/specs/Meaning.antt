@@ -1,10 +1,8 @@
--- Which events may come, and what a turn changes.
+-- Which events may come.
 use Rattle.std.specs.Prelude.{◌≡◌, ◌≤◌, true, ℕ}
 use Rattle.wire_defs.specs.Ethernet.{is_control}
 use Rattle.switch_event.specs.Config.{Config, has_port}
 use Rattle.switch_event.specs.Event.{Happening, Frame, Radius, Dynamic, Second, Link, SetControl}
-use Rattle.auth_table.specs.declared.change.Change.{Change}
-use Rattle.auth_table.specs.declared.change.Change.TheVariants.{Event, Finish}
 
 -- the last of the sockets to which the RADIUS server may answer
 abbrev pub last_socket : ℕ
@@ -19,8 +17,3 @@ IsEvent c (Dynamic from octets) = Unit {0}
 IsEvent c Second = Unit {0}
 IsEvent c (Link port up) = has_port port c ≡ true
 IsEvent c (SetControl port control) = has_port port c ≡ true
-
--- the change of a turn is not the end of all changes
-abbrev pub IsGoing : Change → Type 0
-IsGoing (Event items) = Unit {0}
-IsGoing Finish = ⊥

@@ -1,17 +1,18 @@
 //! What a sequential authenticator promises: one control event after another, each as the definitions say.
 #![tactic(auto)]
 
-ghost use Rattle.std.specs.Prelude.{◌≡◌, ℕ, ◌+◌, ◌<◌, ◌≤◌, true, length, IfOk};
+ghost use Rattle.std.specs.Prelude.{◌≡◌, ℕ, ◌+◌, ◌<◌, ◌≤◌, true, length, map, IfOk};
 ghost use Rattle.switch_event.specs.Config.{is_valid};
 ghost use Rattle.switch_event.specs.Event.{happening};
 ghost use Rattle.switch_defs.specs.Switch.{State, opening, most_sessions};
 ghost use Rattle.switch_defs.specs.Laws.{most_turns};
 ghost use Rattle.switch_defs.specs.Turn as model;
 ghost use Rattle.table_defs.specs.Table.{Tells};
-ghost use Rattle.auth_table.specs.Meaning.{items_of};
-ghost use Rattle.authenticator.specs.Meaning.{IsEvent, IsGoing};
+ghost use Rattle.auth_table.specs.Meaning.{item_of};
+ghost use Rattle.authenticator.specs.Meaning.{IsEvent};
 
-use auth_table::Change;
+use arrayvec::ArrayVec;
+use auth_table::Item;
 use out_tray::Tray;
 use std::alloc::{AllocError, Global};
 use switch_event::{Config, Event, Outcome};
@@ -37,13 +38,14 @@ pub trait Authenticator {
         ensures stands { (s : State) → stands other.now s → stands self.new s }
         ensures made { made self.new ≡ made other.now };
 
-    /// Makes one turn (IEEE Std 802.1X-2004, 8.2; RFC 3579; RFC 5176), of fewer than 1,048,576: what
-    /// became of the event, and what it changes for those that forward frames. The tray, which must
-    /// have room for 960 sessions, is cleared, and has what is sent afterwards.
+    /// Makes one turn (IEEE Std 802.1X-2004, 8.2; RFC 3579; RFC 5176), of fewer than 1,048,576, and
+    /// answers what became of the event. The tray, which must have room for 960 sessions, is cleared,
+    /// and has what is sent afterwards. The list is cleared, and has what the turn changes for those
+    /// that forward frames, in order; it always fits.
     ///
     /// The port of the event is configured, the octets of a frame are those of an EAPOL frame, and
     /// the socket is 0 to 4.
-    fn turn(&mut self, e: &Event<'_>, tray: &mut Tray) -> (Outcome, Change)
+    fn turn(&mut self, e: &Event<'_>, tray: &mut Tray, items: &mut ArrayVec<Item, 1024>) -> Outcome
         requires few { made self.old < most_turns }
         requires event { (s : State) × stands self.old s × IsEvent s.config (happening e.now) }
         requires room { most_sessions ≤ tray.old.sessions }
@@ -51,13 +53,12 @@ pub trait Authenticator {
         ensures state { (s : State) → stands self.old s →
             stands self.new (model.turn s (happening e.now)).state }
         ensures outcome { (s : State) → stands self.old s →
-            result.0 ≡ (model.turn s (happening e.now)).outcome }
+            result ≡ (model.turn s (happening e.now)).outcome }
         ensures sent { (s : State) → stands self.old s →
             tray.new.items ≡ (model.turn s (happening e.now)).sent }
         ensures tray { tray.new.sessions ≡ tray.old.sessions }
-        ensures going { IsGoing result.1 }
         ensures change { (s : State) → stands self.old s →
-            Tells s (items_of result.1) (model.turn s (happening e.now)).state };
+            Tells s (map item_of items.new.items) (model.turn s (happening e.now)).state };
 
     /// How many sessions there are, 0 to 960.
     fn sessions(&self) -> usize

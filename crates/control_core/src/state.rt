@@ -6,14 +6,14 @@ ghost use Rattle.switch_defs.specs.Switch.{State, opening, most_sessions};
 ghost use Rattle.switch_defs.specs.Laws.{most_turns};
 ghost use Rattle.switch_defs.specs.Turn as model;
 ghost use Rattle.table_defs.specs.Table.{Tells};
-ghost use Rattle.auth_table.specs.Meaning.{items_of};
-ghost use Rattle.authenticator.specs.Meaning.{IsEvent, IsGoing};
+ghost use Rattle.auth_table.specs.Meaning.{item_of};
+ghost use Rattle.authenticator.specs.Meaning.{IsEvent};
 ghost use Rattle.control_core.specs.Stands.{MayTurn};
 ghost use Rattle.control_core.specs.Does.{Turns};
 
 use crate::copies::{copied_config, copy_kept, opened_kept};
 use arrayvec::ArrayVec;
-use auth_table::{Change, Item};
+use auth_table::Item;
 use authenticator::Authenticator;
 use dup_cache::Kept;
 use host_sessions::Sessions;
@@ -68,12 +68,17 @@ impl Authenticator for Core {
         self.made = other.made;
     }
 
-    fn turn(&mut self, e: &Event<'_>, tray: &mut Tray) -> (Outcome, Change) {
+    fn turn(
+        &mut self,
+        e: &Event<'_>,
+        tray: &mut Tray,
+        items: &mut ArrayVec<Item, 1024>,
+    ) -> Outcome {
         tray.clear();
-        let mut items = ArrayVec::new();
-        let outcome = self.happen(e, tray, &mut items);
+        items.clear();
+        let outcome = self.happen(e, tray, items);
         self.made += 1;
-        (outcome, Change::Event(items))
+        outcome
     }
 
     fn sessions(&self) -> usize {

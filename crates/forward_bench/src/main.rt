@@ -4,14 +4,12 @@
 //! does each ten times.
 #![tactic(auto)]
 
-ghost use Rattle.std.specs.Prelude.{◌≡◌, ◌<◌, [], false, IfOk};
-ghost use Rattle.auth_table.specs.Meaning.{change_of};
-ghost use Rattle.auth_publish.specs.Changes.{is_finish};
+ghost use Rattle.std.specs.Prelude.{◌≡◌, ◌<◌, [], IfOk};
 
 use arrayvec::ArrayVec;
 use auth_journal::Journal;
 use auth_publish::{Publisher, Viewer, open};
-use auth_table::{Change, Decision, Item, absorb, decide, opening};
+use auth_table::{Decision, Item, absorb, decide, opening};
 use event_record::MOST_EVENTS;
 use forward_worker::Worker;
 use machine_vars::Control;
@@ -45,9 +43,7 @@ fn settings() -> Config {
 }
 
 // The port comes up, and its hosts are let in.
-fn all_in() -> Change
-    ensures { is_finish (change_of result) ≡ false }
-{
+fn all_in() -> ArrayVec<Item, 17> {
     let mut items = ArrayVec::new();
     let _fits = items.try_push(Item::Link { port: 1, up: true });
     for host in 0..HOSTS {
@@ -58,7 +54,7 @@ fn all_in() -> Change
             vlan: 42,
         });
     }
-    Change::Event(items)
+    items
 }
 
 fn one_viewer<R: Wait>(rt: &R, alloc: Global) -> Result<(Publisher, Viewer), AllocError>
@@ -91,9 +87,9 @@ fn post<R: Wait>(rt: &R, publisher: &mut Publisher, rounds: u32) -> Result<u64, 
     requires few { rounds < MOST_EVENTS }
 {
     for _ in 0..rounds {
-        publisher.post(rt, Change::Event(ArrayVec::new()))?;
+        publisher.post(rt, &[])?;
     }
-    Ok(publisher.post(rt, all_in())?.count())
+    Ok(publisher.post(rt, all_in().as_slice())?.count())
 }
 
 // How many frames may leave. Each differs from the one before, so that each is looked at.
@@ -103,7 +99,7 @@ fn ask(rounds: u32) -> u32 {
         return 0;
     }
     let mut table = opening(&settings);
-    absorb(&mut table, &all_in());
+    absorb(&mut table, all_in().as_slice());
     let mut frame = FRAME;
     let mut leaving = 0u32;
     for n in 0..rounds {

@@ -1,5 +1,5 @@
 -- Records that are run one after another.
-use Rattle.std.proofs.Common.{◌≡◌, ℕ, ◌+◌, ◌<◌, ◌≤◌, ◌^◌, true, List, [], ◌∷◌, ◌++◌, length, Result, Ok, Err, OnOk, refl, sym, ap, ◌∙◌, subst, arith, append_assoc, append-nil}
+use Rattle.std.proofs.Common.{◌≡◌, ℕ, ◌+◌, ◌<◌, ◌≤◌, ◌^◌, true, List, [], ◌∷◌, ◌++◌, length, map, Result, Ok, Err, OnOk, refl, sym, ap, ◌∙◌, subst, arith, append_assoc, append-nil}
 use Rattle.std.specs.List.{AllByRecursion}
 use Rattle.std.proofs.lemmas.List.{map-append}
 use Rattle.switch_event.specs.Config.{Config, is_valid}
@@ -12,13 +12,11 @@ use Rattle.switch_defs.specs.Turn.{turn}
 use Rattle.switch_defs.specs.Decide.{decide}
 use Rattle.switch_defs.proofs.Settings.{config_turn}
 use Rattle.switch_event.specs.declared.decision.Decision.{Decision}
-use Rattle.table_defs.specs.Table.{Table, Mirrors, Tells, changed, decide_table, opening_table, all_absorbed}
+use Rattle.table_defs.specs.Table.{Table, Mirrors, Tells, decide_table, opening_table, all_absorbed}
 use Rattle.table_defs.proofs.Mirror.{enough, kept}
 use Rattle.table_defs.proofs.Telling.{begun}
-use Rattle.auth_table.specs.Meaning.{items_of, change_of}
-use Rattle.auth_table.specs.declared.change.Change.{Change}
-use Rattle.auth_table.specs.declared.change.Change.TheVariants.{Event, Finish}
-use Rattle.authenticator.specs.Meaning.{IsGoing}
+use Rattle.auth_table.specs.Meaning.{item_of}
+use Rattle.auth_table.specs.declared.change.Item.{Item}
 use Rattle.trace_defs.specs.Line.{Record}
 use Rattle.trace_defs.specs.Line.Record.{Control, Data}
 use Rattle.trace_defs.specs.Output.{control_block}
@@ -62,13 +60,9 @@ may_next at (x ∷ xs) r ys h = may_next (next_place at x) xs r ys h.1
 
 -- ---- what a turn does to the table
 
-changed_items : (t : Table) (c : Change) → IsGoing c → changed t (change_of c) ≡ all_absorbed t (items_of c)
-changed_items t (Event items) going = refl
-changed_items t Finish going = absurd going
-
-pub turned_in_step : (t new : Table) (s : State) (e : Happening) (c : Change) → Mirrors t s → IsGoing c → Tells s (items_of c) (turn s e).state → new ≡ changed t (change_of c)
+pub turned_in_step : (t new : Table) (s : State) (e : Happening) (is : List Item) → Mirrors t s → Tells s (map item_of is) (turn s e).state → new ≡ all_absorbed t (map item_of is)
     → Mirrors new (turn s e).state
-turned_in_step t new s e c m going tells is = subst (λ u. Mirrors u (turn s e).state) (sym (is ∙ changed_items t c going)) (kept t s (turn s e).state (items_of c) m tells).1
+turned_in_step t new s e is m tells same = subst (λ u. Mirrors u (turn s e).state) (sym same) (kept t s (turn s e).state (map item_of is) m tells).1
 
 pub decides_so : (t : Table) (s : State) (port : ℕ) (octets : List ℕ) (d : Decision) → Mirrors t s → d ≡ decide_table t port octets → d ≡ decide s port octets
 decides_so t s port octets d m e = e ∙ enough t s m port octets
@@ -136,19 +130,19 @@ module _ {A : Type 0} (stands : A → State → Type 0) (made : A → ℕ) where
       )
 
   -- a control record was turned, and its block printed
-  pub Prints-turned : (old new : Sequential A) (lane : ℕ) (e event : Happening) (outcome : Outcome) (sent : List Sent) (change : Change) (text after : List ℕ) → e ≡ event
+  pub Prints-turned : (old new : Sequential A) (lane : ℕ) (e event : Happening) (outcome : Outcome) (sent : List Sent) (items : List Item) (text after : List ℕ) → e ≡ event
       → ((s : State) → stands old.core s → stands new.core (turn s e).state) → ((s : State) → stands old.core s → outcome ≡ (turn s e).outcome)
-      → ((s : State) → stands old.core s → sent ≡ (turn s e).sent) → IsGoing change → ((s : State) → stands old.core s → Tells s (items_of change) (turn s e).state)
-      → made new.core ≡ made old.core + 1 → new.table ≡ changed old.table (change_of change) → new.tray.sessions ≡ old.tray.sessions
+      → ((s : State) → stands old.core s → sent ≡ (turn s e).sent) → ((s : State) → stands old.core s → Tells s (map item_of items) (turn s e).state)
+      → made new.core ≡ made old.core + 1 → new.table ≡ all_absorbed old.table (map item_of items) → new.tray.sessions ≡ old.tray.sessions
       → new.number ≡ old.number + 1 → new.serial ≡ old.serial + 1 → after ≡ text ++ control_block old.number 1 old.serial outcome sent
       → Prints stands made old new (Control lane event) text after
-  Prints-turned old new lane e event outcome sent change text after same state became said going tells turns table room number serial printed = subst (λ f. Prints stands made old new (Control lane f) text after) same (λ at is. (
+  Prints-turned old new lane e event outcome sent items text after same state became said tells turns table room number serial printed = subst (λ f. Prints stands made old new (Control lane f) text after) same (λ at is. (
     printed ∙ ap (λ n. text ++ control_block n 1 old.serial outcome sent) is.number ∙ ap (λ n. text ++ control_block at.number 1 n outcome sent) is.serial
         ∙ ap (λ o. text ++ control_block at.number 1 at.serial o sent) (became at.state is.core_stands) ∙ ap (λ l. text ++ control_block at.number 1 at.serial (turn at.state e).outcome l) (said at.state is.core_stands),
     record {
       core_stands = state at.state is.core_stands;
       turns = turns ∙ ap (λ n. n + 1) is.turns;
-      in_step = turned_in_step old.table new.table at.state e change is.in_step going (tells at.state is.core_stands) table;
+      in_step = turned_in_step old.table new.table at.state e items is.in_step (tells at.state is.core_stands) table;
       room = subst (λ n. most_sessions ≤ n) (sym room) is.room;
       number = number ∙ ap (λ n. n + 1) is.number;
       serial = serial ∙ ap (λ n. n + 1) is.serial;

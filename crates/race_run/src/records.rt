@@ -42,6 +42,7 @@ impl<A: Authenticator + Drop> RunsPhases for Sequential<A> {
             core: A::open(alloc, config)?,
             table: opening(config),
             tray: Tray::open(alloc, SESSIONS)?,
+            items: Box::new(alloc, ArrayVec::new())?,
             number: 1,
             serial: 0,
         })
@@ -88,8 +89,10 @@ impl<A: Authenticator + Drop> Sequential<A> {
             (Prints A.stands A.made self.old self.new (ControlEntry lane (event_of what.now))
             text.old.items text.new.items) }
     {
-        let (outcome, change) = self.core.turn(&what.event(), &mut self.tray);
-        absorb(&mut self.table, &change);
+        let outcome = self
+            .core
+            .turn(&what.event(), &mut self.tray, &mut self.items);
+        absorb(&mut self.table, self.items.as_slice());
         print_control(self.number, LANE, self.serial, &outcome, &self.tray, text)?;
         self.number += 1;
         self.serial += 1;

@@ -1,5 +1,6 @@
 // The authenticator on one thread.
-use auth_table::Table;
+use arrayvec::ArrayVec;
+use auth_table::{Item, Table};
 use out_tray::Tray;
 
 /// The authenticator on one thread, between two records.
@@ -11,6 +12,8 @@ pub struct Sequential<A> {
     pub(crate) table: Table,
     /// What its last turn sent.
     pub(crate) tray: Tray,
+    /// What its last turn changed in the table.
+    pub(crate) items: Box<ArrayVec<Item, 1024>>,
     /// The number of the next record, from 1.
     pub(crate) number: u64,
     /// The number of control records before it.

@@ -9,15 +9,11 @@ use Rattle.switch_defs.specs.History.{runs, after}
 use Rattle.switch_defs.specs.Sound.{In, here, there}
 use Rattle.switch_defs.proofs.Settings.{config_turn}
 use Rattle.switch_defs.proofs.Numbers.{runs_append}
-use Rattle.table_defs.specs.Table.{Table, Change, Items, Finish, Tells, TellsAll, IsItems, Mirrors, Agrees, changed_by, opening_table}
+use Rattle.table_defs.specs.Table.{Table, Change, Item, Items, Finish, Tells, TellsAll, IsItems, Mirrors, Agrees, changed_by, opening_table}
 use Rattle.table_defs.proofs.Mirror.{enough}
 use Rattle.table_defs.proofs.Telling.{begun, continued}
-use Rattle.auth_table.specs.Meaning.{items_of, change_of}
-use Rattle.auth_table.specs.declared.change.Change.{Change as Given}
-use Rattle.auth_table.specs.declared.change.Change.TheVariants as given
-use Rattle.auth_publish.specs.Changes.{is_finish, is_open, front_of}
+use Rattle.auth_publish.specs.Changes.{is_open, front_of}
 use Rattle.auth_publish.proofs.Lists.{open_length, changed_more}
-use Rattle.authenticator.specs.Meaning.{IsGoing}
 use Rattle.event_record.specs.declared.TheConstants.{MOST_EVENTS}
 use Rattle.switch_book.specs.Book.{Book, all_published, IsTold, IsKept}
 
@@ -42,15 +38,6 @@ told_open c cs h t = open_of cs t.going
 pub told_front : (c : Config) (cs : List Change) (h : List Entry) → TellsAll c cs h → front_of cs ≡ length h
 told_front c cs h t = sym (open_length cs (told_open c cs h t)) ∙ t.alike
 
--- the change of a turn is its items
-pub items_given : (c : Given) → IsGoing c → change_of c ≡ Items (items_of c)
-items_given (given.Event items) going = refl
-items_given given.Finish going = absurd going
-
-pub goes_on : (c : Given) → IsGoing c → is_finish (change_of c) ≡ false
-goes_on (given.Event items) going = refl
-goes_on given.Finish going = absurd going
-
 -- the table after what is published is in step with the state after the history
 abbrev pub InStep : Config → List Change → List Entry → Type 0
 InStep c cs h = Mirrors (changed_by (opening_table c) cs) (after c h)
@@ -58,14 +45,6 @@ InStep c cs h = Mirrors (changed_by (opening_table c) cs) (after c h)
 pub after_more : (c : Config) (h : List Entry) (e : Entry) → after c (h ++ e ∷ []) ≡ (turn (after c h) e.event).state
 unfolding after
 after_more c h e = runs_append (opening c) h (e ∷ [])
-
--- an accepted entry and its change
-pub accepted : (c : Config) (cs : List Change) (h : List Entry) (e : Entry) (change : Given) → TellsAll c cs h → InStep c cs h → IsGoing change
-    → Tells (after c h) (items_of change) (turn (after c h) e.event).state
-    → TellsAll c (cs ++ change_of change ∷ []) (h ++ e ∷ []) × InStep c (cs ++ change_of change ∷ []) (h ++ e ∷ [])
-accepted c cs h e change t m going tells =
-    subst (λ (d : Change). TellsAll c (cs ++ d ∷ []) (h ++ e ∷ []) × InStep c (cs ++ d ∷ []) (h ++ e ∷ []))
-    (sym (items_given change going)) (continued c cs h e (items_of change) t m tells)
 
 -- Finish changes no table
 pub finished_in_step : (c : Config) (cs : List Change) (h : List Entry) → InStep c cs h → InStep c (cs ++ Finish ∷ []) h
@@ -135,14 +114,14 @@ module _ {A : Type 0} (stands : A → State → Type 0) (made : A → ℕ) (b : 
   kept_front = told_front b.config b.published b.list (told_alone b f kept.told)
 
   -- an entry was accepted, and each authenticator has made its turn
-  pub kept_accepted : (name : Name) (e : Entry) (change : Given) (list : List Entry) (cs : List Change) (t : Table) (x y : A)
-      → length b.list ≢ MOST_EVENTS → list ≡ b.list ++ e ∷ [] → cs ≡ b.published ++ change_of change ∷ [] → t ≡ table
-      → IsGoing change → Tells (after b.config b.list) (items_of change) (turn (after b.config b.list) e.event).state
+  pub kept_accepted : (name : Name) (e : Entry) (is : List Item) (list : List Entry) (cs : List Change) (t : Table) (x y : A)
+      → length b.list ≢ MOST_EVENTS → list ≡ b.list ++ e ∷ [] → cs ≡ b.published ++ Items is ∷ [] → t ≡ table
+      → Tells (after b.config b.list) is (turn (after b.config b.list) e.event).state
       → stands x (turn (after b.config b.list) e.event).state → stands y (turn (after b.config b.list) e.event).state
       → made x ≡ made first + 1 → made y ≡ made second + 1
       → IsKept stands made (record b { name = name; list = list; published = cs }) t x y
-  kept_accepted name e change list cs t x y room l c same going tells sx sy mx my =
-      let now = accepted b.config b.published b.list e change (told_alone b f kept.told) kept.in_step going tells in
+  kept_accepted name e is list cs t x y room l c same tells sx sy mx my =
+      let now = continued b.config b.published b.list e is (told_alone b f kept.told) kept.in_step tells in
       let state : after b.config list ≡ (turn (after b.config b.list) e.event).state = ap (after b.config) l ∙ after_more b.config b.list e in
       let longer : length list ≡ length b.list + 1 = ap length l ∙ length-append b.list (e ∷ []) in
       record {

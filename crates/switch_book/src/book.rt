@@ -10,9 +10,10 @@ ghost use Rattle.auth_publish.specs.Changes.{front_of};
 ghost use Rattle.authenticator.specs.Meaning.{IsEvent};
 ghost use Rattle.switch_book.specs.Book.{opened, IsTold, Refuses, RefusesFinish, reply_after};
 
+use arrayvec::ArrayVec;
 use auth_journal::{Journal, JournalErr};
 use auth_publish::{Publisher, Receipt, open};
-use auth_table::opening;
+use auth_table::{Item, opening};
 use authenticator::Authenticator;
 use forward_worker::Worker;
 use out_tray::Tray;
@@ -56,6 +57,8 @@ pub struct Book<A: Authenticator + Drop> {
     publisher: Publisher,
     first: A,
     second: A,
+    /// What the last turn changes for those that forward frames.
+    items: Box<ArrayVec<Item, 1024>>,
     finished: bool,
 }
 
@@ -99,6 +102,7 @@ impl<A: Authenticator + Drop> Book<A> {
     {
         let first = A::open(alloc, &config)?;
         let second = A::open(alloc, &config)?;
+        let items = Box::new(alloc, ArrayVec::new())?;
         let journal = Journal::open(alloc)?;
         let mut all = Vec::with_capacity(alloc, workers)?;
         let (publisher, mut viewers) = open(rt, alloc, opening(&config), workers)?;
@@ -111,6 +115,7 @@ impl<A: Authenticator + Drop> Book<A> {
             publisher,
             first,
             second,
+            items,
             finished: false,
         };
         Ok((book, all))
@@ -158,14 +163,14 @@ impl<A: Authenticator + Drop> Book<A> {
             Err(JournalErr::Full { events }) => return Err(BookErr::Full { events }),
             Err(JournalErr::NoMemory) => return Err(BookErr::NoMemory),
         }
-        let (outcome, change) = self.first.turn(e, tray);
-        let Ok(receipt) = self.publisher.post(rt, change) else {
+        let outcome = self.first.turn(e, tray, &mut self.items);
+        let Ok(receipt) = self.publisher.post(rt, self.items.as_slice()) else {
             self.first.copy_from(&self.second);
             tray.clear();
             return Err(BookErr::NoMemory);
         };
         let serial = self.journal.commit();
-        self.second.turn(e, tray);
+        self.second.turn(e, tray, &mut self.items);
         Ok(Answer {
             serial,
             outcome,
@@ -221,6 +226,7 @@ impl<A: Authenticator + Drop> Book<A> {
             publisher,
             first: _first,
             second: _second,
+            items: _items,
             finished: _,
         } = self;
         publisher.end(rt);

@@ -14,7 +14,7 @@ print_control-requires-clause-outcome g c =
 pub returns : goal.returns
 returns g c = record {
   block = λ lane.
-      Prints-turned g.A.Authenticator.stands g.A.Authenticator.made c.args.self.now _ lane (happening c.event.result) (event_of c.args.what.now) c.turn-outcome.result.0 c.turn-outcome.new.tray.items c.turn-outcome.result.1 c.args.text.now.items c.print_control.new.out.items c.event.ensures
-      c.turn-outcome.ensures.state c.turn-outcome.ensures.outcome c.turn-outcome.ensures.sent c.turn-outcome.ensures.going c.turn-outcome.ensures.change
+      Prints-turned g.A.Authenticator.stands g.A.Authenticator.made c.args.self.now _ lane (happening c.event.result) (event_of c.args.what.now) c.turn-outcome.result c.turn-outcome.new.tray.items c.turn-outcome.new.items.items c.args.text.now.items c.print_control.new.out.items c.event.ensures
+      c.turn-outcome.ensures.state c.turn-outcome.ensures.outcome c.turn-outcome.ensures.sent c.turn-outcome.ensures.change
       c.turn-outcome.ensures.made c.absorb.ensures c.turn-outcome.ensures.tray refl refl c.in_ok-print_control.ensures.printed;
 }
