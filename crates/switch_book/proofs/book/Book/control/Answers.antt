@@ -1,10 +1,12 @@
-use Rattle.std.proofs.Common.{rules, ◌≡◌, [], ◌∷◌, ◌++◌, length, map, sym, ap, subst, ◌∙◌, arith}
+use Rattle.std.proofs.Common.{rules, ◌≡◌, List, [], ◌∷◌, ◌++◌, length, map, sym, ap, subst, ◌∙◌, arith}
 use Rattle.event_record.specs.Entry.{entry_of}
 use Rattle.switch_event.specs.Config.{Config}
 use Rattle.switch_event.specs.Event.{happening}
 use Rattle.switch_defs.specs.History.{after}
+use Rattle.switch_defs.specs.Turn.{turn}
 use Rattle.switch_defs.proofs.Settings.{config_turn}
-use Rattle.table_defs.specs.Table.{Items}
+use Rattle.table_defs.specs.Table.{Items, Tells}
+use Rattle.auth_table.specs.declared.change.Item.{Item}
 use Rattle.auth_table.specs.Meaning.{item_of}
 use Rattle.auth_publish.specs.Changes.{front_of}
 use Rattle.authenticator.specs.Meaning.{IsEvent}
@@ -50,15 +52,17 @@ invariant_of-self-2 g c =
     let kept = c.self.invariant in
     let s = after b.config b.journal.list in
     let e = entry_of c.args.lane c.args.e.now in
+    let same_items : c.as_slice.result.now ≡ c.turn-outcome.new.items.items = search rules in
+    let tells = subst (λ (is : List Item). Tells s (map item_of is) (turn s (happening c.args.e.now)).state) (sym same_items) (c.turn-outcome.ensures.change s kept.first_stands) in
     let more : c.commit-serial.new.self.list ≡ b.journal.list ++ e ∷ [] = search rules in
-    kept_accepted g.A.Authenticator.stands g.A.Authenticator.made _ _ _ _ kept c.if-self.false c.post.new.self.name e (map item_of c.turn-outcome.new.items.items) c.commit-serial.new.self.list c.post.new.self.list c.post.new.self.first
-    c.turn-outcome.new.self c.turn.new.self c.in-Ok.ensures.room more c.in-Ok-post.ensures.published c.post.ensures.same.1 (c.turn-outcome.ensures.change s kept.first_stands)
+    kept_accepted g.A.Authenticator.stands g.A.Authenticator.made _ _ _ _ kept c.if-self.false c.post.new.self.name e (map item_of c.as_slice.result.now) c.commit-serial.new.self.list c.post.new.self.list c.post.new.self.first
+    c.turn-outcome.new.self c.turn.new.self c.in-Ok.ensures.room more c.in-Ok-post.ensures.published c.post.ensures.same.1 tells
     (c.turn-outcome.ensures.state s kept.first_stands) (c.turn.ensures.state s kept.second_stands) c.turn-outcome.ensures.made c.turn.ensures.made
 
 pub returns-clause-published : goal.returns-clause-published
 returns-clause-published g c = (
-  Items (map item_of c.turn-outcome.new.items.items),
-  c.in-Ok-post.ensures.published ∙ ap (λ v. v.published ++ Items (map item_of c.turn-outcome.new.items.items) ∷ []) c.self.view_is,
+  Items (map item_of c.as_slice.result.now),
+  c.in-Ok-post.ensures.published ∙ ap (λ v. v.published ++ Items (map item_of c.as_slice.result.now) ∷ []) c.self.view_is,
 )
 
 pub returns-clause-told : goal.returns-clause-told
