@@ -1,5 +1,5 @@
 -- What is published goes on with the history.
-use Rattle.std.proofs.Common.{◌≡◌, ◌≢◌, ℕ, zero, suc, ◌+◌, ◌≤◌, Bool, true, false, refl, sym, ap, subst, ◌∙◌, List, [], ◌∷◌, ◌++◌, length, take, arith, length-append}
+use Rattle.std.proofs.Common.{◌≡◌, ◌≢◌, ℕ, zero, suc, ◌+◌, Bool, true, false, refl, sym, ap, subst, ◌∙◌, List, [], ◌∷◌, ◌++◌, length, take, arith, length-append}
 use Rattle.logbook.specs.Pages.{Book as Name}
 use Rattle.switch_event.specs.Config.{Config, is_valid}
 use Rattle.event_record.specs.Entry.{Entry}

@@ -107,7 +107,8 @@ impl<A: Authenticator + Drop> Book<A> {
         let mut all = Vec::with_capacity(alloc, workers)?;
         let (publisher, mut viewers) = open(rt, alloc, opening(&config), workers)?;
         while let Some(viewer) = viewers.pop() {
-            all.push_reserved(Worker::new(viewer));
+            let worker = Worker::new(viewer);
+            all.push_reserved(worker);
         }
         let book = Book {
             config,

@@ -31,8 +31,8 @@ pub returns-clause-change : goal.returns-clause-change
 returns-clause-change c = λ s k.
     let m : MayTurn c.args.self.now s = record { stands = k; few = c.requires.few } in
     let t = c.happen-outcome.ensures.turns s m in
-    let none : ToldBy (map item_of c.clear-items.new.self.items) s s =
-    subst (λ (is : List Item). ToldBy (map item_of is) s s) (sym c.clear-items.ensures) (by_none s s refl refl refl unmoved) in
+    let none : ToldBy (map item_of c.clear-2.new.self.items) s s =
+    subst (λ (is : List Item). ToldBy (map item_of is) s s) (sym c.clear-2.ensures) (by_none s s refl refl refl unmoved) in
     let is : List Item = c.happen-outcome.new.items.items in
     tells_by k.sound (t.told s none)
     (subst (λ (n : ℕ). n ≤ length s.sessions + length s.ports + 2) (sym (length-map is item_of)) (c.happen-outcome.ensures.few s m))

@@ -16,12 +16,12 @@ loop-viewer-preserved g c =
     let inv = c.loop-viewer.invariant in
     let front = c.pop.new.self.items in
     let viewer = c.in-Some.viewer in
-    let worker = c.new.result in
+    let worker = c.new-worker.result in
     let P : Feed → Type 0 = λ w. (w.name ≡ c.in_ok-publisher.publisher.name) × (w.first ≡ opening_table c.args.config) × (w.list ≡ []) in
     let is : c.loop-viewer.viewers.items ≡ front ++ viewer ∷ [] = search rules in
     let all : All P (front ++ viewer ∷ []) = subst (All P) is inv.5 in
     let one = all_end P front viewer all in
-    let same : worker ≡ viewer = c.new.ensures in (
+    let same : worker ≡ viewer = c.new-worker.ensures in (
       (let a = ap length is ∙ length-append front (viewer ∷ []) in let b = ap length c.push_reserved.ensures.items ∙ length-append c.loop-viewer.all.items (worker ∷ []) in let d = inv.0 in omega arith),
       (let a = c.push_reserved.ensures.capacity in let d = inv.1 in omega arith),
       inv.2,

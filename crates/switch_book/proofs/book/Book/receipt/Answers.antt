@@ -1,4 +1,3 @@
-use Rattle.std.proofs.Common.{rules, ◌≡◌}
 use Rattle.switch_book.proofs.book.Book.receipt.Goals as goal
 
 pub invariant_of-self : goal.invariant_of-self
