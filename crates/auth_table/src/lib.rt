@@ -3,10 +3,12 @@
 #![tactic(auto)]
 
 mod change;
+mod leave;
 mod row;
 mod table;
 
 pub use change::Item;
+pub use leave::write_out;
 pub use switch_event::{Decision, Drop9};
 pub use table::{Table, absorb, can_absorb, decide, opening};
 

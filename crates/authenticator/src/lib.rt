@@ -1,6 +1,8 @@
 //! What a sequential authenticator promises: one control event after another, each as the definitions say.
 #![tactic(auto)]
 
+mod settings;
+
 ghost use Rattle.std.specs.Prelude.{◌≡◌, ℕ, ◌+◌, ◌<◌, ◌≤◌, true, length, map, IfOk};
 ghost use Rattle.switch_event.specs.Config.{is_valid};
 ghost use Rattle.switch_event.specs.Event.{happening};

@@ -1,65 +1,10 @@
-//! What is copied or taken once: settings, and the replies that are kept.
+//! The replies that are kept: lists are opened, and copied.
 
 ghost use Rattle.std.specs.Prelude.{◌≡◌, ◌≤◌, [], length, map, IfOk};
 
-use arrayvec::ArrayVec;
 use dup_cache::Kept;
 use std::alloc::{AllocError, Global};
-use switch_event::{Client, Config, Nas, PortConf};
-
-/// The same settings once more.
-pub(crate) fn copied_config(c: &Config) -> Config
-    ensures { result ≡ c.now }
-{
-    Config {
-        bridge: c.bridge,
-        nas: Nas {
-            ip: c.nas.ip,
-            name: same_octets(&c.nas.name),
-        },
-        server: c.server,
-        secret: same_octets(&c.secret),
-        clients: same_clients(&c.clients),
-        ports: same_ports(&c.ports),
-        times: c.times,
-        guest_wait: c.guest_wait,
-        window: c.window,
-        require_ma: c.require_ma,
-        clock: c.clock,
-        seed: c.seed,
-    }
-}
-
-fn same_octets<const N: usize>(octets: &ArrayVec<u8, N>) -> ArrayVec<u8, N>
-    ensures { result ≡ octets.now }
-{
-    let mut same = ArrayVec::new();
-    let _fits = same.try_extend_from_slice(octets.as_slice());
-    same
-}
-
-fn same_clients(clients: &ArrayVec<Client, 4>) -> ArrayVec<Client, 4>
-    ensures { result ≡ clients.now }
-{
-    let mut same = ArrayVec::new();
-    for client in clients.as_slice() {
-        same.push(Client {
-            ip: client.ip,
-            secret: same_octets(&client.secret),
-        });
-    }
-    same
-}
-
-fn same_ports(ports: &ArrayVec<PortConf, 60>) -> ArrayVec<PortConf, 60>
-    ensures { result ≡ ports.now }
-{
-    let mut same = ArrayVec::new();
-    for port in ports.as_slice() {
-        same.push(*port);
-    }
-    same
-}
+use switch_event::Config;
 
 /// For each client of the settings an empty list of replies.
 pub(crate) fn opened_kept(alloc: Global, c: &Config) -> Result<Vec<Kept>, AllocError>

@@ -11,10 +11,10 @@ ghost use Rattle.authenticator.specs.Meaning.{IsEvent};
 ghost use Rattle.control_core.specs.Stands.{MayTurn};
 ghost use Rattle.control_core.specs.Does.{Turns};
 
-use crate::copies::{copied_config, copy_kept, opened_kept};
+use crate::copies::{copy_kept, opened_kept};
 use arrayvec::ArrayVec;
 use auth_table::Item;
-use authenticator::Authenticator;
+use authenticator::{Authenticator, copied_config};
 use dup_cache::Kept;
 use host_sessions::Sessions;
 use out_tray::Tray;

@@ -1,7 +1,6 @@
 //! Workers, which forward data frames by the published table. None takes a lock.
 #![tactic(auto)]
 
-mod tag;
 mod worker;
 
 pub use switch_event::Decided;

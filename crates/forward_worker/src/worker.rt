@@ -4,12 +4,11 @@ ghost use mathlib.Core.List.{IsPrefix};
 ghost use Rattle.table_defs.specs.Table.{Change, Finish, changed_by, decide_table};
 ghost use Rattle.auth_publish.specs.Changes.{front_of, finish_is_last};
 ghost use Rattle.auth_table.specs.Meaning.{ForwardsTagged};
-ghost use Rattle.forward_worker.specs.Leaving.{leaving};
+ghost use Rattle.auth_table.specs.Leaving.{leaving};
 
-use crate::tag::write_out;
 use arrayvec::ArrayVec;
 use auth_publish::{Receipt, Viewer};
-use auth_table::decide;
+use auth_table::{decide, write_out};
 use core::mem::replace_with;
 use std::alloc::AllocError;
 use std::marker::Model;

@@ -13,7 +13,7 @@ use Rattle.history_defs.proofs.PlaceLemmas.{controls_in-append}
 use Rattle.race_run.specs.declared.counter.Counter.{Counter}
 use Rattle.race_run.specs.declared.ending.Ending.{Ending}
 use Rattle.race_run.specs.declared.ending.Ending.TheVariants.{Done, NoMemory, Refused, ReadFault, WriteFault, Full, TooLong}
-use Rattle.race_run.specs.Streams.{TakesWhole}
+use Rattle.outside_text.specs.Streams.{TakesWhole}
 use Rattle.race_run.specs.Runs.{IsGiven, RanPhase}
 use Rattle.race_run.specs.Records.{IsSilent, HasCounted}
 use Rattle.race_run.specs.Ending.{OfText, TakesPhases, HoldsRun, RunEnds}

@@ -24,7 +24,7 @@ use Rattle.trace_record.specs.Entered.{entered, entered_all}
 use Rattle.race_run.specs.declared.run.Run.{Run}
 use Rattle.race_run.specs.declared.ending.Ending.{Ending}
 use Rattle.race_run.specs.declared.ending.Ending.TheVariants.{Done, NoMemory, Refused, ReadFault, WriteFault, Full, TooLong}
-use Rattle.race_run.specs.Streams.{TakesWhole}
+use Rattle.outside_text.specs.Streams.{TakesWhole}
 use Rattle.race_run.specs.Runs.{Phased, IsGiven, MayCome, MayRun, RanPhase}
 use Rattle.race_run.specs.Ending.{TakesEnded}
 use Rattle.race_run.specs.Run.{IsUnbegun, HasBegun, IsAt, IsReady, IsSound, Halts, Steps, ended}

@@ -1,4 +1,3 @@
-pub mod Streams
 pub mod Runs
 pub mod Records
 pub mod Ending

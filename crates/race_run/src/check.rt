@@ -13,7 +13,7 @@ use crate::counter::Counter;
 use crate::ending::Ending;
 use crate::refusal::append;
 use crate::run::run_within;
-use crate::streams::write_whole;
+use outside_text::write_whole;
 use arrayvec::ArrayVec;
 use outside_core::{Failed, Sink, Source};
 use std::alloc::Global;

@@ -12,8 +12,6 @@ mod replay;
 mod run;
 mod runs;
 mod sequential;
-mod streams;
-mod tag;
 
 pub use check::check_within;
 pub use counter::Counter;
@@ -23,7 +21,7 @@ pub use replay::replay_within;
 pub use run::run_within;
 pub use runs::RunsPhases;
 pub use sequential::Sequential;
-pub use streams::say;
+pub use outside_text::say;
 pub use trace_record::TraceRecord;
 
 #[cfg(test)]

@@ -14,7 +14,7 @@ ghost use Rattle.race_run.specs.Run.{IsSound, Steps, Halts, ended};
 use crate::ending::Ending;
 use crate::run::Run;
 use crate::runs::RunsPhases;
-use crate::streams::write_whole;
+use outside_text::write_whole;
 use outside_core::{Failed, Sink};
 use std::alloc::Global;
 use trace_lang::{Octets, Record};

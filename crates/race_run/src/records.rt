@@ -10,9 +10,8 @@ ghost use Rattle.race_run.specs.Records.{Stands, Prints, PrintsAll, MayRunOne, M
 
 use crate::runs::RunsPhases;
 use crate::sequential::Sequential;
-use crate::tag::write_out;
 use arrayvec::ArrayVec;
-use auth_table::{absorb, decide, opening};
+use auth_table::{absorb, decide, opening, write_out};
 use authenticator::Authenticator;
 use event_record::Record;
 use out_tray::Tray;

@@ -2,11 +2,11 @@
 ghost use Rattle.std.specs.Prelude.{◌≡◌, ◌≢◌, ◌+◌, ◌≤◌, ◌++◌, [], ◌∷◌, length, codes};
 ghost use Rattle.history_defs.specs.Status.{refusal_text, status_text};
 ghost use Rattle.trace_defs.specs.Reason.{reason_name as reason_name_lem};
-ghost use Rattle.race_run.specs.Streams.{Says};
+ghost use Rattle.outside_text.specs.Streams.{Says};
 ghost use Rattle.race_run.specs.Ending.{ending_text};
 
 use crate::ending::{Ending, status};
-use crate::streams::say;
+use outside_text::say;
 use arrayvec::ArrayVec;
 use outside_core::Sink;
 

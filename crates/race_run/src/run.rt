@@ -10,7 +10,7 @@ ghost use Rattle.race_run.specs.Run.{IsAt, IsSound, OfLine, Steps, Halts, TakesO
 
 use crate::ending::Ending;
 use crate::runs::RunsPhases;
-use crate::streams::read_octet;
+use outside_text::read_octet;
 use outside_core::{Failed, Sink, Source};
 use std::alloc::{AllocError, Global};
 use trace_defs::MISSING;

@@ -9,7 +9,7 @@ use Rattle.race_run.specs.declared.ending.Ending.{Ending}
 use Rattle.race_run.specs.declared.ending.Ending.TheVariants.{Done, NoMemory, Refused, ReadFault, WriteFault, Full, TooLong}
 use Rattle.race_run.specs.Ending.{OfText, IsRefusedAt, EndsByFate, AnyRun, RunEnds, refusal_of, status_of, ending_text}
 use Rattle.race_run.specs.Counts.{CountEnds}
-use Rattle.race_run.specs.Streams.{Says}
+use Rattle.outside_text.specs.Streams.{Says}
 use Rattle.switch_top.specs.Top.{CountsByFate, IsByText}
 
 -- the octets given and those left are the text

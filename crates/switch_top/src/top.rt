@@ -5,7 +5,7 @@ ghost use Rattle.wire_defs.specs.Outside.{Rose};
 ghost use Rattle.switch_event.specs.Config.{empty};
 ghost use Rattle.history_defs.specs.Output.{IsPlain};
 ghost use Rattle.history_defs.specs.Status.{status_text};
-ghost use Rattle.race_run.specs.Streams.{Says};
+ghost use Rattle.outside_text.specs.Streams.{Says};
 ghost use Rattle.race_run.specs.Ending.{OfText, EndsByFate, TakesGiven, HalfWritten, StopsShort, refusal_of, status_of, ending_text};
 ghost use Rattle.race_run.specs.Counts.{HalfCounted};
 ghost use Rattle.switch_top.specs.declared.form.Form.TheVariants.{Check as AsksCheck, Replay as AsksReplay};

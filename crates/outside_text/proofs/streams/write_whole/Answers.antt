@@ -1,6 +1,6 @@
 use Rattle.std.proofs.Common.{length, length-drop, ap, arith, take}
 use Rattle.wire_defs.proofs.OutsideLemmas.{Appends-part, Appends-same, slice_from}
-use Rattle.race_run.proofs.streams.write_whole.Goals as goal
+use Rattle.outside_text.proofs.streams.write_whole.Goals as goal
 
 pub loop-at-preserved : goal.loop-at-preserved
 loop-at-preserved g c = record {

@@ -1,4 +1,4 @@
--- What a run reads and writes.
+-- One octet that is read, and a text that is written.
 use Rattle.std.specs.Prelude.{◌<◌, ◌≤◌, ℕ, List, [], ◌∷◌, length, take, Option, Some, None, Result, Ok, Err}
 use Rattle.std.specs.Io.KnownBytes.{Appends, Keeps, Consumes, IsAtEnd}
 use Rattle.wire_defs.specs.Outside.{Rose}

@@ -2,7 +2,7 @@
 ghost use Rattle.std.specs.Prelude.{◌≡◌, ◌≤◌, ◌<◌, ℕ, List, [], ◌∷◌, length, take, OnOk, OnErr, IfOk, MatchOption};
 ghost use Rattle.std.specs.Io.KnownBytes.{Appends, Keeps, Consumes, IsAtEnd};
 ghost use Rattle.wire_defs.specs.Outside.{HasCause};
-ghost use Rattle.race_run.specs.Streams.{GivesOctet, TakesWhole, Says};
+ghost use Rattle.outside_text.specs.Streams.{GivesOctet, TakesWhole, Says};
 
 use outside_core::{Failed, Sink, Source};
 
