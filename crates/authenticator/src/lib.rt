@@ -3,6 +3,8 @@
 
 mod settings;
 
+pub use settings::copied_config;
+
 ghost use Rattle.std.specs.Prelude.{◌≡◌, ℕ, ◌+◌, ◌<◌, ◌≤◌, true, length, map, IfOk};
 ghost use Rattle.switch_event.specs.Config.{is_valid};
 ghost use Rattle.switch_event.specs.Event.{happening};

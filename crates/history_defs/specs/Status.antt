@@ -15,6 +15,7 @@ status_text status =
     else if status == 4 then codes "read fault" ++ line_feed
     else if status == 5 then codes "write fault" ++ line_feed
     else if status == 6 then concat (codes "full: " ∷ decimal MOST_EVENTS ∷ line_feed ∷ [])
+    else if status == 7 then codes "link fault" ++ line_feed
     else if status == 8 then concat (codes "too long: " ∷ decimal MOST_OCTETS ∷ line_feed ∷ [])
     else []
 

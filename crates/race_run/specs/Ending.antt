@@ -1,5 +1,5 @@
 -- How a run ends: its status, what it has written by then, and what is said.
-use Rattle.std.specs.Prelude.{◌≡◌, ◌⊎◌, ◌<◌, ◌≤◌, ◌+◌, ◌++◌, ◌∷◌, [], ℕ, List, length, take, MatchOption, Option, None, Some, Ok, Err, Result}
+use Rattle.std.specs.Prelude.{◌≡◌, ◌⊎◌, ◌<◌, ◌≤◌, ◌+◌, ◌++◌, ◌∷◌, [], ℕ, List, length, take, Option, None, Some, Ok, Err, Result}
 use Rattle.std.specs.Io.KnownBytes.{Appends, Consumes, IsAtEnd}
 use Rattle.wire_defs.specs.Outside.{Rose}
 use Rattle.switch_event.specs.Config.{Config}
@@ -41,32 +41,32 @@ OfText None P = (text : List ℕ) × P text
 OfText (Some text) P = P text
 
 -- what a sink took was given for these phases
-pub record TakesPhases (gives : Phased) (origin after : Option (List ℕ)) (config : Config)
+pub record TakesPhases (ran : Phased) (origin after : Option (List ℕ)) (config : Config)
     (phases : List (List Record)) : Type 0 where
   pub text : List ℕ
-  pub for_phases : IsGiven gives config phases text
+  pub for_phases : IsGiven ran config phases text
   pub taken : Appends origin after text
 
 -- it was given for the phases that were ended
 abbrev pub TakesEnded : Phased → Option (List ℕ) → Option (List ℕ) → Progress → Type 0
-TakesEnded gives origin after p = TakesPhases gives origin after p.config p.done
+TakesEnded ran origin after p = TakesPhases ran origin after p.config p.done
 
 -- It is what was given for the phases that were ended, and a proper part of what was then given for
 -- the open one.
-pub record TakesPart (gives : Phased) (origin after : Option (List ℕ)) (p : Progress) : Type 0 where
+pub record TakesPart (gave ran : Phased) (origin after : Option (List ℕ)) (p : Progress) : Type 0 where
   pub was : List ℕ
   pub more : List ℕ
   pub n : ℕ
-  pub before : IsGiven gives p.config p.done was
-  pub for_phases : gives p.config (p.done ++ p.current ∷ []) (was ++ more)
+  pub before : IsGiven gave p.config p.done was
+  pub for_phases : ran p.config (p.done ++ p.current ∷ []) (was ++ more)
   pub proper : n < length more
   pub taken : Appends origin after (was ++ take n more)
 
 -- the status is that of the text, and what the sink took was given for the whole phases of the text
-pub record EndsByFate (gives : Phased) (limit room : ℕ) (config : Config) (text : List ℕ)
+pub record EndsByFate (ran : Phased) (limit room : ℕ) (config : Config) (text : List ℕ)
     (origin after : Option (List ℕ)) (status : ℕ) : Type 0 where
   pub fated : fate limit room config text ≡ status
-  pub output : TakesPhases gives origin after (progress_of (trace_of limit room config text)).config
+  pub output : TakesPhases ran origin after (progress_of (trace_of limit room config text)).config
       (whole limit room config text)
 
 -- this line of the text is refused, for this reason
@@ -83,8 +83,8 @@ refusal_of limit room config text =
 
 -- what the sink took was given for the phases whose last line ended in the octets
 abbrev pub TakesGiven : Phased → ℕ → Config → List ℕ → Option (List ℕ) → Option (List ℕ) → Type 0
-TakesGiven gives room config given origin after =
-    TakesEnded gives origin after (progress_of (ended_reading room config given))
+TakesGiven ran room config given origin after =
+    TakesEnded ran origin after (progress_of (ended_reading room config given))
 
 -- The octets end with a line that ends a phase, and this stands behind the line. The lines before
 -- it lead to `p`.
@@ -100,13 +100,13 @@ pub record EndsPhase (room : ℕ) (config : Config) (given : List ℕ) (p : Prog
 
 -- A phase was not written as a whole: the octets end with the line that ends it, or it ends where
 -- the text does.
-pub record HalfWritten (gives : Phased) (limit room : ℕ) (config : Config) (given : List ℕ)
+pub record HalfWritten (gave ran : Phased) (limit room : ℕ) (config : Config) (given : List ℕ)
     (left origin after : Option (List ℕ)) : Type 0 where
   pub p : Progress
   pub place : EndsPhase room config given p (10 ∷ [])
       ⊎ (IsAtEnd left × (EndsPhase room config given p []
       ⊎ (trace_of limit room config given ≡ Going p)))
-  pub part : TakesPart gives origin after p
+  pub part : TakesPart gave ran origin after p
   pub short : length given ≤ limit
 
 -- the lines that ended before the last octet lead to this progress
@@ -119,47 +119,38 @@ pub record ComesAfter (room : ℕ) (config : Config) (given : List ℕ) (p : Pro
 
 -- There was no memory for the last line or for the phase that it ends: the phases before it were
 -- written as a whole.
-pub record StopsShort (gives : Phased) (limit room : ℕ) (config : Config) (given : List ℕ)
+pub record StopsShort (gave : Phased) (limit room : ℕ) (config : Config) (given : List ℕ)
     (left origin after : Option (List ℕ)) : Type 0 where
   pub p : Progress
   pub place : ComesAfter room config given p
       ⊎ (IsAtEnd left × (trace_of limit room config given ≡ Going p))
-  pub output : TakesEnded gives origin after p
+  pub output : TakesEnded gave origin after p
   pub short : length given ≤ limit
 
--- what ran the phases has run these
-abbrev pub HoldsRun : {R : Type 0} → (R → Phased) → Option R → Config → List (List Record) → Type 0
-HoldsRun stands runner config phases =
-    MatchOption runner ⊥ (λ s. (text : List ℕ) × stands s config phases text)
-
--- of what ran the phases nothing is said
-abbrev pub AnyRun : Config → List (List Record) → Type 0
-AnyRun config phases = Unit {0}
-
--- how a run ends, by the octets that it was given and those that are left; where all phases were
--- run, by what ran them
-abbrev pub EndsAfter : Phased → (Config → List (List Record) → Type 0) → ℕ → ℕ → Config → List ℕ
-    → Option (List ℕ) → Option (List ℕ) → Option (List ℕ) → Ending → Type 0
-EndsAfter gives ran limit room config given left origin after Done =
-    IsAtEnd left × EndsByFate gives limit room config given origin after 0
-    × ran (progress_of (trace_of limit room config given)).config (whole limit room config given)
-EndsAfter gives ran limit room config given left origin after (Refused line why) =
-    OfText left (λ rest. EndsByFate gives limit room config (given ++ rest) origin after 3
+-- How a run ends, by the octets that it was given and those that are left. Where there was no memory,
+-- and of the phases before one that was not written as a whole, the first relation tells what was
+-- given, and else the second.
+abbrev pub EndsAfter : (gave ran : Phased) → ℕ → ℕ → Config → List ℕ → Option (List ℕ)
+    → Option (List ℕ) → Option (List ℕ) → Ending → Type 0
+EndsAfter gave ran limit room config given left origin after Done =
+    IsAtEnd left × EndsByFate ran limit room config given origin after 0
+EndsAfter gave ran limit room config given left origin after (Refused line why) =
+    OfText left (λ rest. EndsByFate ran limit room config (given ++ rest) origin after 3
     × IsRefusedAt limit room config (given ++ rest) line why)
-EndsAfter gives ran limit room config given left origin after Full =
-    OfText left (λ rest. EndsByFate gives limit room config (given ++ rest) origin after 6)
-EndsAfter gives ran limit room config given left origin after TooLong =
-    OfText left (λ rest. EndsByFate gives limit room config (given ++ rest) origin after 8)
-EndsAfter gives ran limit room config given left origin after ReadFault =
-    TakesGiven gives room config given origin after
-EndsAfter gives ran limit room config given left origin after WriteFault =
-    HalfWritten gives limit room config given left origin after
-EndsAfter gives ran limit room config given left origin after NoMemory =
-    StopsShort gives limit room config given left origin after
+EndsAfter gave ran limit room config given left origin after Full =
+    OfText left (λ rest. EndsByFate ran limit room config (given ++ rest) origin after 6)
+EndsAfter gave ran limit room config given left origin after TooLong =
+    OfText left (λ rest. EndsByFate ran limit room config (given ++ rest) origin after 8)
+EndsAfter gave ran limit room config given left origin after ReadFault =
+    TakesGiven ran room config given origin after
+EndsAfter gave ran limit room config given left origin after WriteFault =
+    HalfWritten gave ran limit room config given left origin after
+EndsAfter gave ran limit room config given left origin after NoMemory =
+    StopsShort gave limit room config given left origin after
 
 -- how a run ends, by what the source had left and has left
-abbrev pub RunEnds : Phased → (Config → List (List Record) → Type 0) → ℕ → ℕ → Config
-    → Option (List ℕ) → Option (List ℕ) → Option (List ℕ) → Option (List ℕ) → Ending → Type 0
-RunEnds gives ran limit room config before left origin after ending =
+abbrev pub RunEnds : (gave ran : Phased) → ℕ → ℕ → Config → Option (List ℕ) → Option (List ℕ)
+    → Option (List ℕ) → Option (List ℕ) → Ending → Type 0
+RunEnds gave ran limit room config before left origin after ending =
     (given : List ℕ) × Consumes before left given
-    × EndsAfter gives ran limit room config given left origin after ending
+    × EndsAfter gave ran limit room config given left origin after ending

@@ -1,5 +1,5 @@
 pub mod Runs
-pub mod Records
+pub mod Runners
 pub mod Ending
 pub mod Counts
 pub mod Run

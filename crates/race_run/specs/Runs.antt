@@ -23,14 +23,14 @@ pub record MayRun (config : Config) (phases : List (List Record)) (rs : List Rec
   pub controls : controls_in (records_of phases) + controls_in rs ≤ MOST_EVENTS
   pub events : AllByRecursion (MayCome config) rs
 
--- the records were run as one more phase, and its text was added
+-- the records were run as one more phase, and its text was added: this stands now, and this was given
 abbrev pub RanPhase : Phased → Phased → Config → List (List Record) → List Record → List ℕ
     → List ℕ → List ℕ → Type 0
-RanPhase stands gives config phases rs was text after =
+RanPhase stands gave config phases rs was text after =
     (more : List ℕ) × (after ≡ text ++ more) × stands config (phases ++ rs ∷ []) (was ++ more)
-    × gives config (phases ++ rs ∷ []) (was ++ more)
+    × gave config (phases ++ rs ∷ []) (was ++ more)
 
 -- for no phases nothing is given
 abbrev pub IsGiven : Phased → Phased
-IsGiven gives config [] text = text ≡ []
-IsGiven gives config (phase ∷ phases) text = gives config (phase ∷ phases) text
+IsGiven gave config [] text = text ≡ []
+IsGiven gave config (phase ∷ phases) text = gave config (phase ∷ phases) text

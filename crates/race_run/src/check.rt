@@ -2,6 +2,7 @@
 ghost use Rattle.std.specs.Prelude.{◌≡◌, ◌≤◌, ◌<◌, ◌+◌, ◌++◌, ◌∷◌, ◌^◌, [], length, codes};
 ghost use Rattle.std.specs.List.{concat};
 ghost use Rattle.std.specs.Fmt.{decimal};
+ghost use Rattle.std.specs.Thread.{IsSync};
 ghost use Rattle.wire_defs.specs.Outside.{Rose};
 ghost use Rattle.switch_event.specs.Config.{empty};
 ghost use Rattle.event_record.specs.declared.TheConstants.{MOST_EVENTS};
@@ -13,21 +14,25 @@ use crate::counter::Counter;
 use crate::ending::Ending;
 use crate::refusal::append;
 use crate::run::run_within;
-use outside_text::write_whole;
 use arrayvec::ArrayVec;
 use outside_core::{Failed, Sink, Source};
+use outside_text::write_whole;
 use std::alloc::Global;
+use std::sync::Wait;
+use std::thread::Threads;
 
 /// Reads a trace of at most `limit` octets and `room` control records, runs none, and writes `ok`,
 /// how many records there were, how many of them were control records, and a line feed. Where it
 /// ends otherwise, nothing is written, and after a write fault a part of that line.
-pub fn check_within<S: Source, K: Sink>(
+pub fn check_within<T: Threads + Wait + Sync, S: Source, K: Sink>(
+    rt: &T,
     alloc: Global,
     limit: usize,
     room: u64,
     source: &mut S,
     out: &mut K,
 ) -> Ending
+    requires sync { IsSync T.row }
     requires limit { limit < 2 ^ 62 }
     requires room { room ≤ MOST_EVENTS }
     ensures ends { CountEnds limit room empty (S.left source.old) (S.left source.new)
@@ -37,13 +42,11 @@ pub fn check_within<S: Source, K: Sink>(
     ensures later { (S.faults source.old ≤ S.faults source.new)
         × (K.faults out.old ≤ K.faults out.new) }
 {
-    let (ending, counter) = run_within::<Counter, S, K>(alloc, limit, room, source, out);
+    let mut counter = Counter::default();
+    let ending = run_within(rt, alloc, limit, room, &mut counter, source, out);
     if ending != Ending::Done {
         return ending;
     }
-    let Some(counter) = counter else {
-        unreachable!()
-    };
     match write_whole(out, &counts_line(counter)) {
         Ok(()) => Ending::Done,
         Err(Failed) => Ending::WriteFault,

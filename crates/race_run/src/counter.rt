@@ -5,7 +5,9 @@ ghost use Rattle.trace_record.specs.Entered.{entered_all};
 
 use crate::runs::RunsPhases;
 use std::alloc::{AllocError, Global};
-use trace_lang::Config;
+use std::sync::Wait;
+use std::thread::Threads;
+use switch_event::Config;
 use trace_record::TraceRecord;
 
 /// Counts the records of phases, and gives no text for them.
@@ -37,20 +39,33 @@ impl Counter {
 }
 
 impl RunsPhases for Counter {
-    ghost use Rattle.race_run.specs.Records.{HasCounted, IsSilent};
+    ghost use Rattle.std.specs.Prelude.{Unit, []};
+    ghost use Rattle.race_run.specs.Runners.{HasCounted, IsSilent};
+
+    ghost numbers = { λ counter. [] };
+
+    ghost fresh = { λ counter. Unit {0} };
 
     ghost stands = { HasCounted };
 
-    ghost gives = { IsSilent };
+    ghost gave = { λ none. IsSilent };
 
-    fn open(_alloc: Global, _config: &Config) -> Result<Counter, AllocError> {
-        Ok(Counter {
-            records: 0,
-            controls: 0,
-        })
+    fn open<T: Threads + Wait + Sync>(
+        &mut self,
+        _rt: &T,
+        _alloc: Global,
+        _config: &Config,
+    ) -> Result<(), AllocError> {
+        *self = Counter::default();
+        Ok(())
     }
 
-    fn run(&mut self, records: &[TraceRecord], _text: &mut Vec<u8>) -> Result<(), AllocError> {
+    fn run<T: Threads + Wait + Sync>(
+        &mut self,
+        _rt: &T,
+        records: &[TraceRecord],
+        _text: &mut Vec<u8>,
+    ) -> Result<(), AllocError> {
         self.count(records);
         Ok(())
     }

@@ -5,23 +5,22 @@
 mod check;
 mod counter;
 mod ending;
+mod one_thread;
 mod phase;
-mod records;
 mod refusal;
 mod replay;
 mod run;
 mod runs;
-mod sequential;
 
 pub use check::check_within;
 pub use counter::Counter;
 pub use ending::{Ending, status};
-pub use refusal::{say_ending, status_words};
+pub use one_thread::OneThread;
+pub use outside_text::say;
+pub use refusal::{refusal_words, say_ending, status_words};
 pub use replay::replay_within;
 pub use run::run_within;
 pub use runs::RunsPhases;
-pub use sequential::Sequential;
-pub use outside_text::say;
 pub use trace_record::TraceRecord;
 
 #[cfg(test)]

@@ -1,14 +1,14 @@
 // What is said of a status, and of the end of a run, on standard error.
 ghost use Rattle.std.specs.Prelude.{◌≡◌, ◌≢◌, ◌+◌, ◌≤◌, ◌++◌, [], ◌∷◌, length, codes};
 ghost use Rattle.history_defs.specs.Status.{refusal_text, status_text};
-ghost use Rattle.trace_defs.specs.Reason.{reason_name as reason_name_lem};
+ghost use Rattle.trace_defs.specs.Reason.{reason_name as name_of};
 ghost use Rattle.outside_text.specs.Streams.{Says};
 ghost use Rattle.race_run.specs.Ending.{ending_text};
 
 use crate::ending::{Ending, status};
-use outside_text::say;
 use arrayvec::ArrayVec;
 use outside_core::Sink;
+use outside_text::say;
 
 /// Says how a run ended, as far as `err` takes it: the line that was refused and the reason, else
 /// the words of the status.
@@ -17,7 +17,7 @@ pub fn say_ending<K: Sink>(err: &mut K, ending: Ending)
         (ending_text ending) }
 {
     match ending {
-        Ending::Refused { line, why } => say(err, &refusal(line, why)),
+        Ending::Refused { line, why } => say(err, &refusal_words(line, why)),
         _ => say(err, status_words(status(ending))),
     }
 }
@@ -32,13 +32,14 @@ pub fn status_words(status: u8) -> &'static [u8]
         4 => b"read fault\n",
         5 => b"write fault\n",
         6 => b"full: 1048576\n",
+        7 => b"link fault\n",
         8 => b"too long: 67108864\n",
         _ => b"",
     }
 }
 
 /// What is said of a line that was refused: its number, the name of the reason, and a line feed.
-pub fn refusal(line: u64, why: u8) -> ArrayVec<u8, 64>
+pub fn refusal_words(line: u64, why: u8) -> ArrayVec<u8, 64>
     ensures { result.items ≡ refusal_text line why }
 {
     let mut digits = itoa::Buffer::new();
@@ -52,7 +53,7 @@ pub fn refusal(line: u64, why: u8) -> ArrayVec<u8, 64>
 }
 
 fn reason_name(why: u8) -> &'static [u8]
-    ensures name { result.now ≡ reason_name_lem why }
+    ensures name { result.now ≡ name_of why }
     ensures short { length result.now ≤ 16 }
 {
     match why {

@@ -1,17 +1,18 @@
--- The records of a phase, and what runs or counts them.
-use Rattle.std.specs.Prelude.{◌≡◌, ℕ, ◌+◌, ◌<◌, ◌≤◌, ◌^◌, ◌++◌, List, [], ◌∷◌, length}
-use Rattle.switch_event.specs.Config.{Config}
+-- The records of a trace, and what runs them on one thread.
+use Rattle.std.specs.Prelude.{◌≡◌, ℕ, ◌+◌, ◌<◌, ◌≤◌, ◌^◌, ◌++◌, List, [], ◌∷◌}
+use Rattle.switch_event.specs.Event.{Happening}
+use Rattle.switch_event.specs.declared.event.Outcome.{Outcome}
 use Rattle.event_record.specs.declared.TheConstants.{MOST_EVENTS}
 use Rattle.switch_defs.specs.Switch.{State, most_sessions}
+use Rattle.switch_defs.specs.Turn.{turn}
 use Rattle.table_defs.specs.Table.{Mirrors}
 use Rattle.authenticator.specs.Meaning.{IsEvent}
 use Rattle.trace_defs.specs.Line.{Record}
 use Rattle.trace_defs.specs.Line.Record.{Control, Data}
-use Rattle.history_defs.specs.Output.{Place, IsPlain, block, blocks, controls_in, first_place, next_place, place_after, records_of}
+use Rattle.history_defs.specs.Output.{Place, block, blocks, next_place, place_after}
 use Rattle.trace_record.specs.declared.TraceRecord.{TraceRecord}
 use Rattle.trace_record.specs.Entered.{entered_all}
-use Rattle.race_run.specs.declared.counter.Counter.{Counter}
-use Rattle.race_run.specs.declared.sequential.Sequential.{Sequential}
+use Rattle.sequential.specs.declared.sequential.Sequential.{Sequential}
 
 -- the output has come as far as this place: the authenticator stands for its state after as many
 -- turns as there were control records, and the table is in step
@@ -23,6 +24,23 @@ pub record Stands {A : Type 0} (stands : A → State → Type 0) (made : A → �
   pub room : most_sessions ≤ s.tray.sessions
   pub number : s.number ≡ at.number
   pub serial : s.serial ≡ at.serial
+
+-- it has made a turn at this place with this outcome: the authenticator stands for the state after
+-- it, the table is in step, and the tray has what it sends
+pub record Turned {A : Type 0} (stands : A → State → Type 0) (made : A → ℕ) (s : Sequential A)
+    (event : Happening) (outcome : Outcome) (at : Place) : Type 0 where
+  pub core_stands : stands s.core (turn at.state event).state
+  pub turns : made s.core ≡ at.serial + 1
+  pub in_step : Mirrors s.table (turn at.state event).state
+  pub room : most_sessions ≤ s.tray.sessions
+  pub became : outcome ≡ (turn at.state event).outcome
+  pub sent : s.tray.items ≡ (turn at.state event).sent
+
+-- the tray has what a control record sends at this place
+abbrev pub Sends : {A : Type 0} → (A → State → Type 0) → (A → ℕ) → (old new : Sequential A)
+    → Happening → Type 0
+Sends stands made old new event = (at : Place) → Stands stands made old at
+    → new.tray.items ≡ (turn at.state event).sent
 
 -- the record was run, and its block was added
 abbrev pub Prints : {A : Type 0} → (A → State → Type 0) → (A → ℕ) → (old new : Sequential A)
@@ -47,20 +65,3 @@ MayRunOne at (Data port octets) = at.number + 1 < 2 ^ 64
 abbrev pub MayRunAt : Place → List Record → Type 0
 MayRunAt at [] = Unit {0}
 MayRunAt at (r ∷ rs) = MayRunOne at r × MayRunAt (next_place at r) rs
-
--- the phases were run, and the text is their output on one thread
-pub record HasRun {A : Type 0} (stands : A → State → Type 0) (made : A → ℕ) (s : Sequential A)
-    (config : Config) (phases : List (List Record)) (text : List ℕ) : Type 0 where
-  pub place : Stands stands made s (place_after (first_place config) (records_of phases))
-  pub output : IsPlain config phases text
-
--- nothing is given
-abbrev pub IsSilent : Config → List (List Record) → List ℕ → Type 0
-IsSilent config phases text = text ≡ []
-
--- the records of the phases were counted, and nothing was given
-pub record HasCounted (s : Counter) (config : Config) (phases : List (List Record))
-    (text : List ℕ) : Type 0 where
-  pub records : s.records ≡ length (records_of phases)
-  pub controls : s.controls ≡ controls_in (records_of phases)
-  pub silent : text ≡ []

@@ -1,7 +1,7 @@
 use Rattle.std.proofs.Common.{take, drop, ap, ◌∙◌, sym, ◌∷◌, [], ◌++◌, ◌+◌, append_assoc, ◌≡◌}
 use Rattle.std.proofs.lemmas.List.{take_more, take_all, take-append-drop}
-use Rattle.race_run.proofs.RecordLemmas.{PrintsAll-none, PrintsAll-more, PrintsAll-whole, may_one}
-use Rattle.race_run.proofs.sequential.Sequential.run_all.Goals as goal
+use Rattle.sequential.proofs.RecordLemmas.{PrintsAll-none, PrintsAll-more, PrintsAll-whole, may_one}
+use Rattle.sequential.proofs.sequential.Sequential.run_records.Goals as goal
 
 pub loop-entry-init : goal.loop-entry-init
 loop-entry-init g c = PrintsAll-none g.A.Authenticator.stands g.A.Authenticator.made c.args.self.now c.args.text.now.items
