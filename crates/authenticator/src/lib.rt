@@ -3,8 +3,6 @@
 
 mod settings;
 
-pub use settings::copied_config;
-
 ghost use Rattle.std.specs.Prelude.{◌≡◌, ℕ, ◌+◌, ◌<◌, ◌≤◌, true, length, map, IfOk};
 ghost use Rattle.switch_event.specs.Config.{is_valid};
 ghost use Rattle.switch_event.specs.Event.{happening};
@@ -18,6 +16,7 @@ ghost use Rattle.authenticator.specs.Meaning.{IsEvent};
 use arrayvec::ArrayVec;
 use auth_table::Item;
 use out_tray::Tray;
+pub use settings::copied_config;
 use std::alloc::{AllocError, Global};
 use switch_event::{Config, Event, Outcome};
 

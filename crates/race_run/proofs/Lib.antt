@@ -1,5 +1,7 @@
 pub mod ReadLemmas
-pub mod RecordLemmas
+pub mod AloneLemmas
 pub mod StepLemmas
+pub mod SoundLemmas
 pub mod FateLemmas
+pub mod EndLemmas
 pub mod CountLemmas

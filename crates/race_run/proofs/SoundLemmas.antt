@@ -1,15 +1,19 @@
 -- What holds of every run.
-use Rattle.std.proofs.Common.{◌≡◌, ℕ, ◌+◌, ◌<◌, ◌≤◌, ◌^◌, true, false, List, [], ◌∷◌, ◌++◌, length, length-append, refl, sym, ap, ◌∙◌, subst, arith}
+use Rattle.std.proofs.Common.{◌≡◌, ℕ, ◌+◌, ◌<◌, ◌≤◌, ◌^◌, true, false, List, [], ◌∷◌, ◌++◌, length, length-append, Result, Ok, Err, OnOk, sym, ap, ◌∙◌, subst, arith}
 use Rattle.std.specs.List.{AllByRecursion}
 use Rattle.std.proofs.lemmas.List.{map-append}
-use Rattle.switch_event.specs.Config.{Config}
+use Rattle.switch_event.specs.Config.{Config, empty}
 use Rattle.event_record.specs.declared.TheConstants.{MOST_EVENTS}
-use Rattle.trace_defs.proofs.SettingFacts.{IsRead}
+use Rattle.trace_defs.proofs.SettingFacts.{IsRead, empty-read}
 use Rattle.trace_defs.specs.Line.{Record as Entered}
 use Rattle.history_defs.specs.Output.{controls_in, records_of}
 use Rattle.history_defs.proofs.OutputLemmas.{flat_more}
 use Rattle.history_defs.proofs.PlaceLemmas.{controls_in-append}
+use Rattle.event_record.specs.declared.record.Record.{Record as What}
+use Rattle.event_record.specs.Record.{event_of}
+use Rattle.authenticator.specs.Meaning.{IsEvent}
 use Rattle.trace_record.specs.declared.TraceRecord.{TraceRecord}
+use Rattle.trace_record.specs.declared.TraceRecord.TheVariants.{Control, Data}
 use Rattle.trace_record.specs.Entered.{entered, entered_all}
 use Rattle.race_run.specs.declared.run.Run.{Run}
 use Rattle.race_run.specs.Runs.{Phased, MayCome, MayRun}
@@ -69,12 +73,12 @@ module _ {R : Type 0} (fresh : R → Type 0) (stands gave : R → Phased) where
   })
 
   -- the start
-  pub sound_start : (run : Run) (s : R) → IsStart run → fresh s → IsRead run.config run.given → IsSound fresh stands run s
-  sound_start run s start new read = record {
+  pub sound_start : (run : Run) (s : R) → IsStart run → fresh s → IsSound fresh stands run s
+  sound_start run s start new = record {
     unbegun = λ e. (start.records, new);
     ready = λ e. absurd (contradiction (sym e ∙ start.begun));
     most = (let controls = start.controls in omega (arith, controls));
-    read = read;
+    read = subst (λ config. IsRead config run.given) (sym start.config) (subst (IsRead empty) (sym start.given) empty-read);
   }
 
   -- other settings, before they end
@@ -126,6 +130,23 @@ module _ {R : Type 0} (fresh : R → Type 0) (stands gave : R → Phased) where
     where
       all : entered_all new.records.items ≡ entered_all run.records.items ++ entered r ∷ []
       all = ap entered_all joins.records ∙ map-append entered run.records.items (r ∷ [])
+
+  -- a control record that may come joined it
+  pub sound_control : {T E : Type 0} (result : Result T E) (run new : Run) (s : R) (room lane : ℕ) (what : What) → IsSound fresh stands run s → run.begun ≡ true → room ≤ MOST_EVENTS
+      → IsEvent run.config (event_of what) → OnOk result ((run.controls < room) × Joins run new (Control lane what) (run.controls + 1))
+      → OnOk result (IsSound fresh stands new s × (new.lines ≡ run.lines + 1))
+  sound_control (Err e) run new s room lane what sound begun most comes joins = tt
+  sound_control (Ok x) run new s room lane what sound begun most comes joins = (
+    sound_record run new s (Control lane what) (run.controls + 1) sound begun joins.1 (omega arith) (let few = joins.0 in omega (arith, few, most)) comes,
+    ap (λ r. r.lines) joins.1.rest,
+  )
+
+  -- a data record joined it
+  pub sound_data : {T E : Type 0} (result : Result T E) (run new : Run) (s : R) (port : ℕ) (octets : List ℕ) → IsSound fresh stands run s → run.begun ≡ true
+      → OnOk result (Joins run new (Data port octets) run.controls) → OnOk result (IsSound fresh stands new s × (new.lines ≡ run.lines + 1))
+  sound_data (Err e) run new s port octets sound begun joins = tt
+  sound_data (Ok x) run new s port octets sound begun joins =
+      (sound_record run new s (Data port octets) run.controls sound begun joins (omega arith) sound.most tt, ap (λ r. r.lines) joins.rest)
 
   -- the open phase was run
   pub sound_phase : (run new : Run) (s t : R) (rs : List Entered) (before text : List ℕ) → run.begun ≡ true → rs ≡ entered_all run.records.items

@@ -1,5 +1,5 @@
 -- How a run goes on from line to line and from phase to phase.
-use Rattle.std.proofs.Common.{◌≡◌, ◌⊎◌, inl, inr, ℕ, ◌+◌, ◌<◌, ◌≤◌, ◌^◌, Bool, true, false, cond, ltb, List, [], ◌∷◌, ◌++◌, length, take, length-append, Option, Result, Ok, Err, OnOk, IfErr, refl, sym, ap, ap₂, ◌∙◌, subst, arith}
+use Rattle.std.proofs.Common.{◌≡◌, ◌⊎◌, inl, inr, ℕ, ◌+◌, ◌<◌, ◌≤◌, Bool, true, false, cond, ltb, List, [], ◌∷◌, ◌++◌, length, take, Option, Result, Ok, Err, OnOk, IfErr, refl, sym, ap, ap₂, ◌∙◌, subst, arith}
 use Rattle.std.specs.List.{AllByRecursion}
 use Rattle.std.specs.Io.KnownBytes.{Appends}
 use Rattle.std.proofs.lemmas.List.{map-append}
@@ -7,16 +7,11 @@ use Rattle.std.proofs.lemmas.Bool.Decides.{nat_tests}
 use Rattle.wire_defs.proofs.OutsideLemmas.{Appends-same, Appends-trans}
 use Rattle.switch_event.specs.Config.{Config}
 use Rattle.switch_event.specs.Event.{Happening}
-use Rattle.event_record.specs.declared.TheConstants.{MOST_EVENTS}
-use Rattle.trace_defs.proofs.SettingFacts.{IsRead}
 use Rattle.trace_defs.specs.Line.{Line as Meaning, Record as Entered, line_of}
 use Rattle.trace_defs.specs.Line.Line.{Blank as IsBlank, Begin as IsBegin, Sync as IsSync, Setting as IsSetting}
 use Rattle.trace_defs.specs.Line.Record.{Control as ControlEntry, Data as DataEntry}
 use Rattle.trace_defs.specs.Trace.{Progress, Stop, after_line, add_line, add_record}
 use Rattle.trace_defs.specs.Trace.Stop.{Full as IsFull}
-use Rattle.history_defs.specs.Output.{controls_in, records_of}
-use Rattle.history_defs.proofs.OutputLemmas.{flat_more}
-use Rattle.history_defs.proofs.PlaceLemmas.{controls_in-append}
 use Rattle.trace_lang.specs.Meaning.{AreKept}
 use Rattle.trace_record.specs.declared.TraceRecord.{TraceRecord}
 use Rattle.trace_record.specs.declared.TraceRecord.TheVariants.{Data}
@@ -25,9 +20,9 @@ use Rattle.race_run.specs.declared.run.Run.{Run}
 use Rattle.race_run.specs.declared.ending.Ending.{Ending}
 use Rattle.race_run.specs.declared.ending.Ending.TheVariants.{Done, NoMemory, Refused, ReadFault, WriteFault, Full, TooLong}
 use Rattle.outside_text.specs.Streams.{TakesWhole}
-use Rattle.race_run.specs.Runs.{Phased, IsGiven, MayCome, MayRun, RanPhase}
+use Rattle.race_run.specs.Runs.{Phased, IsGiven, RanPhase}
 use Rattle.race_run.specs.Ending.{TakesEnded}
-use Rattle.race_run.specs.Run.{IsUnbegun, IsAt, IsReady, IsSound, Joins, Halts, Steps, ended, given_by}
+use Rattle.race_run.specs.Run.{IsAt, Joins, Halts, Steps, ended, given_by}
 
 contradiction : true ≡ false → ⊥
 contradiction e = cc
@@ -98,7 +93,7 @@ module _ {R : Type 0} (stands gave : R → Phased) where
       ap (λ c. line_of c p.given p.begun line) (sym at.config) ∙ ap (λ g. line_of run.config g p.begun line) (sym at.given)
       ∙ ap (λ b. line_of run.config run.given b line) (sym at.begun)
 
-  Steps-read : (room : ℕ) (taken after : Option (List ℕ)) (old mid new : Run) (s t : R) (line : List ℕ) (wanted : Result Meaning ℕ) → line_of old.config old.given old.begun line ≡ wanted → mid ≡ old
+  pub Steps-read : (room : ℕ) (taken after : Option (List ℕ)) (old mid new : Run) (s t : R) (line : List ℕ) (wanted : Result Meaning ℕ) → line_of old.config old.given old.begun line ≡ wanted → mid ≡ old
       → Steps stands gave (λ p. add_line room p wanted) taken after mid new s t → Steps stands gave (λ p. after_line room p line) taken after old new s t
   Steps-read room taken after old mid new s t line wanted means same steps = λ origin p at.
       let step = steps origin p (subst (λ r. IsAt stands gave origin taken r s p) (sym same) at) in
@@ -324,7 +319,7 @@ module _ {R : Type 0} (stands gave : R → Phased) where
   -- these records were run as one more phase, behind a text that is empty
   abbrev pub Ran : (s t : R) → List Entered → (before text : List ℕ) → Type 0
   Ran s t rs before text = (c : Config) (phases : List (List Entered)) (was : List ℕ) → stands s c phases was
-      → RanPhase (stands t) (gave t) c phases rs before text
+      → RanPhase (stands t) (gave t) c phases rs was before text
 
   -- what was given for it was taken
   pub Steps-phase : (taken after : Option (List ℕ)) (run new : Run) (s t : R) (rs : List Entered) (before text said : List ℕ) → said ≡ text → run.begun ≡ true → rs ≡ entered_all run.records.items

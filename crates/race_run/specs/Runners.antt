@@ -1,5 +1,5 @@
 -- What the runners of one thread have given, and what counts.
-use Rattle.std.specs.Prelude.{◌≡◌, ℕ, List, [], length, Option, MatchOption}
+use Rattle.std.specs.Prelude.{◌≡◌, ℕ, List, [], length, MatchOption}
 use Rattle.switch_event.specs.Config.{Config}
 use Rattle.switch_defs.specs.Switch.{State}
 use Rattle.trace_defs.specs.Line.{Record}
@@ -19,7 +19,7 @@ pub record HasRun {A : Type 0} (stands : A → State → Type 0) (made : A → �
 abbrev pub HasRunAlone : {A : Type 0} → (A → State → Type 0) → (A → ℕ) → OneThread A → Config
     → List (List Record) → List ℕ → Type 0
 HasRunAlone stands made one config phases text =
-    MatchOption one.run ⊥ (HasRun stands made config phases text)
+    MatchOption one.alone ⊥ (HasRun stands made config phases text)
 
 -- nothing is given
 abbrev pub IsSilent : Config → List (List Record) → List ℕ → Type 0

@@ -39,7 +39,7 @@ impl Counter {
 }
 
 impl RunsPhases for Counter {
-    ghost use Rattle.std.specs.Prelude.{Unit, []};
+    ghost use Rattle.std.specs.Prelude.{[]};
     ghost use Rattle.race_run.specs.Runners.{HasCounted, IsSilent};
 
     ghost numbers = { λ counter. [] };

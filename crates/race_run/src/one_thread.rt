@@ -13,18 +13,18 @@ use trace_record::TraceRecord;
 #[derive(Drop)]
 pub struct OneThread<A> {
     /// The authenticator, once it was opened.
-    pub(crate) run: Option<Sequential<A>>,
+    pub(crate) alone: Option<Sequential<A>>,
 }
 
 impl<A: Authenticator + Drop> OneThread<A> {
     /// One that was not opened yet.
     pub fn new() -> OneThread<A> {
-        OneThread { run: None }
+        OneThread { alone: None }
     }
 }
 
 impl<A: Authenticator + Drop> RunsPhases for OneThread<A> {
-    ghost use Rattle.std.specs.Prelude.{Unit, []};
+    ghost use Rattle.std.specs.Prelude.{[]};
     ghost use Rattle.history_defs.specs.Output.{IsPlain};
     ghost use Rattle.race_run.specs.Runners.{HasRunAlone};
 
@@ -42,7 +42,7 @@ impl<A: Authenticator + Drop> RunsPhases for OneThread<A> {
         alloc: Global,
         config: &Config,
     ) -> Result<(), AllocError> {
-        self.run = Some(Sequential::open(alloc, config)?);
+        self.alone = Some(Sequential::open(alloc, config)?);
         Ok(())
     }
 
@@ -52,9 +52,9 @@ impl<A: Authenticator + Drop> RunsPhases for OneThread<A> {
         records: &[TraceRecord],
         text: &mut Vec<u8>,
     ) -> Result<(), AllocError> {
-        let Some(run) = &mut self.run else {
+        let Some(alone) = &mut self.alone else {
             unreachable!()
         };
-        run.run_records(records, text)
+        alone.run_records(records, text)
     }
 }

@@ -18,10 +18,13 @@ fn a_trace_past_its_limits_is_not_run(rt: HostRuntime) -> Result<(), Fail> {
     for (limit, room, ending) in rows {
         let mut source = MemSource::new(rt.alloc(), TEXT, 4096, &[])?;
         let mut out = MemSink::new(rt.alloc(), ROOM, &[])?;
-        let (ended, _) = run_within::<Counter, _, _>(
+        let mut counter = Counter::default();
+        let ended = run_within(
+            &rt,
             rt.alloc(),
             limit,
             room,
+            &mut counter,
             &mut source,
             &mut out,
         );
@@ -34,7 +37,7 @@ fn a_trace_past_its_limits_is_not_run(rt: HostRuntime) -> Result<(), Fail> {
 fn records_and_control_records_are_counted(rt: HostRuntime) -> Result<(), Fail> {
     let mut source = MemSource::new(rt.alloc(), TEXT, 4096, &[])?;
     let mut out = MemSink::new(rt.alloc(), ROOM, &[])?;
-    let ended = check_within(rt.alloc(), TEXT.len(), 3, &mut source, &mut out);
+    let ended = check_within(&rt, rt.alloc(), TEXT.len(), 3, &mut source, &mut out);
     assert_eq!(rt; ended, Ending::Done);
     assert_eq!(rt; out.taken(), b"ok 4 3\n".as_slice());
     Ok(())
