@@ -2,7 +2,6 @@
 ghost use Rattle.std.specs.Prelude.{◌≡◌, ◌≤◌, ◌<◌, ◌+◌, ◌++◌, ◌∷◌, ◌^◌, [], length, codes};
 ghost use Rattle.std.specs.List.{concat};
 ghost use Rattle.std.specs.Fmt.{decimal};
-ghost use Rattle.std.specs.Thread.{IsSync};
 ghost use Rattle.wire_defs.specs.Outside.{Rose};
 ghost use Rattle.switch_event.specs.Config.{empty};
 ghost use Rattle.event_record.specs.declared.TheConstants.{MOST_EVENTS};
@@ -32,7 +31,6 @@ pub fn check_within<T: Threads + Wait + Sync, S: Source, K: Sink>(
     source: &mut S,
     out: &mut K,
 ) -> Ending
-    requires sync { IsSync T.row }
     requires limit { limit < 2 ^ 62 }
     requires room { room ≤ MOST_EVENTS }
     ensures ends { CountEnds limit room empty (S.left source.old) (S.left source.new)

@@ -1,6 +1,5 @@
 // The phases of a run: its records, and the line that ends it.
 ghost use Rattle.std.specs.Prelude.{◌≡◌, ◌⊎◌, ◌≤◌, ◌<◌, ◌+◌, ◌^◌, ℕ, List, Option, OnOk, IfErr, Ok, true, false};
-ghost use Rattle.std.specs.Thread.{IsSync};
 ghost use Rattle.switch_event.specs.Config.{is_valid};
 ghost use Rattle.trace_defs.specs.Line.Line.{Begin as IsBegin, Sync as IsSyncLine};
 ghost use Rattle.trace_defs.specs.Trace.{add_line};
@@ -57,7 +56,6 @@ impl Run {
         alloc: Global,
         runner: &mut R,
     ) -> Result<(), Ending>
-        requires sync { IsSync T.row }
         requires sound { IsSound R.fresh R.stands self.old runner.old }
         requires short { self.old.lines + 1 < 2 ^ 63 }
         requires unbegun { self.old.begun ≡ false }
@@ -84,7 +82,6 @@ impl Run {
         runner: &mut R,
         out: &mut K,
     ) -> Result<(), Ending>
-        requires sync { IsSync T.row }
         requires sound { IsSound R.fresh R.stands self.old runner.old }
         requires short { self.old.lines + 1 < 2 ^ 63 }
         requires begun { self.old.begun ≡ true }
@@ -116,7 +113,6 @@ impl Run {
         runner: &mut R,
         out: &mut K,
     ) -> Result<(), Ending>
-        requires sync { IsSync T.row }
         requires sound { IsSound R.fresh R.stands self.old runner.old }
         requires short { self.old.lines + 1 < 2 ^ 63 }
         requires begun { self.old.begun ≡ true }

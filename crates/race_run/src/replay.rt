@@ -1,6 +1,5 @@
 // A run of a trace on one thread.
 ghost use Rattle.std.specs.Prelude.{◌≡◌, ◌≤◌, ◌<◌, ◌^◌};
-ghost use Rattle.std.specs.Thread.{IsSync};
 ghost use Rattle.wire_defs.specs.Outside.{Rose};
 ghost use Rattle.switch_event.specs.Config.{empty};
 ghost use Rattle.event_record.specs.declared.TheConstants.{MOST_EVENTS};
@@ -27,7 +26,6 @@ pub fn replay_within<A: Authenticator + Drop, T: Threads + Wait + Sync, S: Sourc
     source: &mut S,
     out: &mut K,
 ) -> Ending
-    requires sync { IsSync T.row }
     requires limit { limit < 2 ^ 62 }
     requires room { room ≤ MOST_EVENTS }
     ensures ends { RunEnds IsPlain IsPlain limit room empty (S.left source.old)

@@ -1,6 +1,5 @@
 // A run over a source, octet by octet and line by line.
 ghost use Rattle.std.specs.Prelude.{◌≡◌, ◌≤◌, ◌<◌, ◌+◌, ◌^◌, ℕ, [], OnOk, IfErr, IfOk, false};
-ghost use Rattle.std.specs.Thread.{IsSync};
 ghost use Rattle.wire_defs.specs.Outside.{Rose};
 ghost use Rattle.trace_defs.specs.Trace.{after_line};
 ghost use Rattle.switch_event.specs.Config.{empty};
@@ -64,7 +63,6 @@ impl Run {
         runner: &mut R,
         out: &mut K,
     ) -> Result<(), Ending>
-        requires sync { IsSync T.row }
         requires sound { IsSound R.fresh R.stands self.old runner.old }
         requires short { self.old.lines + 1 < 2 ^ 63 }
         requires room { room ≤ MOST_EVENTS }
@@ -116,7 +114,6 @@ impl Run {
         runner: &mut R,
         out: &mut K,
     ) -> Result<(), Ending>
-        requires sync { IsSync T.row }
         requires sound { IsSound R.fresh R.stands self.old runner.old }
         requires short { self.old.lines + 1 < 2 ^ 63 }
         requires room { room ≤ MOST_EVENTS }
@@ -146,7 +143,6 @@ impl Run {
         runner: &mut R,
         out: &mut K,
     ) -> Result<(), Ending>
-        requires sync { IsSync T.row }
         requires sound { IsSound R.fresh R.stands self.old runner.old }
         requires short { self.old.lines + 1 < 2 ^ 63 }
         requires room { room ≤ MOST_EVENTS }
@@ -180,7 +176,6 @@ impl Run {
         runner: &mut R,
         out: &mut K,
     ) -> Ending
-        requires sync { IsSync T.row }
         requires sound { IsSound R.fresh R.stands self.old runner.old }
         requires short { self.old.lines + 2 < 2 ^ 63 }
         requires room { room ≤ MOST_EVENTS }
@@ -206,7 +201,6 @@ impl Run {
         runner: &mut R,
         out: &mut K,
     ) -> Ending
-        requires sync { IsSync T.row }
         requires sound { IsSound R.fresh R.stands self.old runner.old }
         requires short { self.old.lines + 1 < 2 ^ 63 }
         ensures ends { (room : ℕ) → EndsTrace R.stands (given_by R.numbers R.gave) room
@@ -237,7 +231,6 @@ impl Run {
         source: &mut S,
         out: &mut K,
     ) -> Ending
-        requires sync { IsSync T.row }
         requires limit { limit < 2 ^ 62 }
         requires room { room ≤ MOST_EVENTS }
         requires start { IsStart self.old }
@@ -284,7 +277,6 @@ pub fn run_within<T: Threads + Wait + Sync, R: RunsPhases, S: Source, K: Sink>(
     source: &mut S,
     out: &mut K,
 ) -> Ending
-    requires sync { IsSync T.row }
     requires limit { limit < 2 ^ 62 }
     requires room { room ≤ MOST_EVENTS }
     requires fresh { R.fresh runner.old }
