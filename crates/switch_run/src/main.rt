@@ -5,9 +5,9 @@
 mod tests;
 mod words;
 
-use control_core::Core;
 use either::Either;
 use outside_core::{StdSink, StdSource};
+use outside_link::{HostClock, UdpLink};
 use race_run::{Ending, say_ending, status};
 use std::process::ExitCode;
 use switch_top::switch_top;
@@ -22,5 +22,16 @@ fn main(rt: HostRuntime) -> ExitCode {
         return ExitCode::from(status(Ending::NoMemory));
     };
     let words = without_name(&line);
-    ExitCode::from(switch_top::<Core, _, _>(rt.alloc(), words, &mut source, &mut out, &mut err))
+    let mut link = UdpLink::new();
+    let mut clock = HostClock::new(&rt);
+    ExitCode::from(switch_top(
+        &rt,
+        rt.alloc(),
+        words,
+        &mut source,
+        &mut out,
+        &mut err,
+        &mut link,
+        &mut clock,
+    ))
 }

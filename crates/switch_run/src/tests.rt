@@ -2,8 +2,8 @@
 ghost use Rattle.std.specs.Prelude.{◌≤◌, None};
 
 use crate::words::without_name;
-use control_core::Core;
 use outside_core::{Failed, MemSink, MemSource, Sink, Source};
+use outside_link::{ListClock, MemLink};
 use std::alloc::{AllocError, Global};
 use std::cell::Cell;
 use std::test::Fail;
@@ -28,6 +28,28 @@ fn replay(alloc: Global) -> Result<Vec<String>, AllocError> {
     Ok(words)
 }
 
+// The status of a call over a link and a clock in memory.
+fn called<S: Source, K: Sink>(
+    rt: &HostRuntime,
+    words: &[String],
+    source: &mut S,
+    out: &mut K,
+    err: &mut K,
+) -> Result<u8, AllocError> {
+    let mut link = MemLink::new(rt.alloc(), 0, &[])?;
+    let mut clock = ListClock::new(rt.alloc(), &[])?;
+    Ok(switch_top(
+        rt,
+        rt.alloc(),
+        words,
+        source,
+        out,
+        err,
+        &mut link,
+        &mut clock,
+    ))
+}
+
 fn run(rt: &HostRuntime, words: &[&str], text: &[u8], step: usize) -> Result<Ran, AllocError>
     requires { 1 ≤ step }
 {
@@ -38,7 +60,7 @@ fn run(rt: &HostRuntime, words: &[&str], text: &[u8], step: usize) -> Result<Ran
     let mut source = MemSource::new(rt.alloc(), text, step, &[])?;
     let mut out = MemSink::new(rt.alloc(), ROOM, &[])?;
     let mut err = MemSink::new(rt.alloc(), ROOM, &[])?;
-    let status = switch_top::<Core, _, _>(rt.alloc(), &all, &mut source, &mut out, &mut err);
+    let status = called(rt, &all, &mut source, &mut out, &mut err)?;
     Ok(Ran {
         status,
         out: out.taken().to_vec(rt.alloc())?,
@@ -189,7 +211,7 @@ fn a_source_that_fails_leaves_the_phases_before(rt: HostRuntime) -> Result<(), F
         let mut out = MemSink::new(rt.alloc(), ROOM, &[])?;
         let mut err = MemSink::new(rt.alloc(), ROOM, &[])?;
         let words = replay(rt.alloc())?;
-        let status = switch_top::<Core, _, _>(rt.alloc(), &words, &mut source, &mut out, &mut err);
+        let status = called(&rt, &words, &mut source, &mut out, &mut err)?;
         assert_eq!(rt; status, 4, "at {call}");
         assert_eq!(rt; out.taken(), printed.as_bytes(), "at {call}");
         assert_eq!(rt; err.taken(), b"read fault\n".as_slice(), "at {call}");
@@ -206,7 +228,7 @@ fn a_sink_that_fails_leaves_all_that_follows_the_phase(rt: HostRuntime) -> Resul
         let mut out = MemSink::new(rt.alloc(), ROOM, &[call])?;
         let mut err = MemSink::new(rt.alloc(), ROOM, &[])?;
         let words = replay(rt.alloc())?;
-        let status = switch_top::<Core, _, _>(rt.alloc(), &words, &mut source, &mut out, &mut err);
+        let status = called(&rt, &words, &mut source, &mut out, &mut err)?;
         assert_eq!(rt; status, 5, "at {call}");
         assert_eq!(rt; out.taken(), printed.as_bytes(), "at {call}");
         assert_eq!(rt; err.taken(), b"write fault\n".as_slice(), "at {call}");
@@ -224,7 +246,7 @@ fn a_sink_without_room_for_a_block_fails(rt: HostRuntime) -> Result<(), Fail> {
     let mut out = MemSink::new(rt.alloc(), FIRST_BLOCK.len() + 1, &[])?;
     let mut err = MemSink::new(rt.alloc(), 5, &[])?;
     let words = replay(rt.alloc())?;
-    let status = switch_top::<Core, _, _>(rt.alloc(), &words, &mut source, &mut out, &mut err);
+    let status = called(&rt, &words, &mut source, &mut out, &mut err)?;
     assert_eq!(rt; status, 5);
     assert_eq!(rt; out.taken(), FIRST_BLOCK.as_bytes());
     assert_eq!(rt; err.taken(), b"".as_slice());
@@ -309,7 +331,7 @@ fn the_first_phase_is_written_before_an_octet_of_the_second_is_given(
     };
     let mut err = SharedSink { shared: &unused };
     let words = replay(rt.alloc())?;
-    let status = switch_top::<Core, _, _>(rt.alloc(), &words, &mut source, &mut out, &mut err);
+    let status = called(&rt, &words, &mut source, &mut out, &mut err)?;
     assert_eq!(rt; status, 0);
     assert_eq!(rt; shared.first_write.get(), SETTINGS.len() as u64 + 15);
     assert_eq!(rt; shared.given.get(), text.len() as u64);

@@ -3,7 +3,9 @@ use Rattle.std.specs.Prelude.{◌≡◌, ℕ, ◌==◌, if◌then◌else◌, [],
 use Rattle.std.specs.Io.KnownBytes.{Appends, Consumes}
 use Rattle.switch_event.specs.Config.{Config}
 use Rattle.trace_defs.specs.Trace.{fate}
-use Rattle.race_run.specs.Counts.{counts_of}
+use Rattle.race_run.specs.Runs.{Phased}
+use Rattle.race_run.specs.Ending.{OfText, EndsByFate, TakesGiven, HalfWritten}
+use Rattle.race_run.specs.Counts.{counts_of, HalfCounted}
 
 -- the statuses that the text alone decides
 abbrev pub IsByText : ℕ → Type 0
@@ -28,3 +30,25 @@ pub record CountsByFate (limit room : ℕ) (config : Config) (text : List ℕ)
     (origin after : Option (List ℕ)) (status : ℕ) : Type 0 where
   pub fated : fate limit room config text ≡ status
   pub output : Appends origin after (counted limit room config text status)
+
+-- What a run wrote of a trace: what was given for the whole phases of the text; after a read fault
+-- for those that were read as a whole; after a write fault for those before the last, and a part of
+-- the text of that one.
+pub record Writes (gave ran : Phased) (limit room : ℕ) (config : Config)
+    (before left origin after : Option (List ℕ)) (status : ℕ) : Type 0 where
+  pub by_text : IsByText status
+      → OfText before (λ b. EndsByFate ran limit room config b origin after status)
+  pub read_fault : status ≡ 4
+      → OfGiven before left (λ given. TakesGiven ran room config given origin after)
+  pub write_fault : status ≡ 5
+      → OfGiven before left (λ given. HalfWritten gave ran limit room config given left origin after)
+
+-- What a count wrote of a trace: the numbers of its records where it runs, after a write fault a
+-- part of them, and else nothing.
+pub record Counts (limit room : ℕ) (config : Config) (before left origin after : Option (List ℕ))
+    (status : ℕ) : Type 0 where
+  pub by_text : IsByText status
+      → OfText before (λ b. CountsByFate limit room config b origin after status)
+  pub nothing : (status ≡ 1) ⊎ (status ≡ 4) → Appends origin after []
+  pub write_fault : status ≡ 5
+      → OfGiven before left (λ given. HalfCounted limit room config given left origin after)

@@ -1,40 +1,55 @@
 // The call that does all that the program does.
-ghost use Rattle.std.specs.Prelude.{◌≡◌, ◌≢◌, ◌↔◌, ◌⊎◌, ℕ, List, [], Option, None, Some, map, string_bytes};
-ghost use Rattle.std.specs.Io.KnownBytes.{Appends, IsAtEnd};
+ghost use Rattle.std.specs.Prelude.{◌≡◌, ◌≢◌, ◌↔◌, ℕ, List, Option, None, Some, map, string_bytes};
+ghost use Rattle.std.specs.Io.KnownBytes.{IsAtEnd};
 ghost use Rattle.wire_defs.specs.Outside.{Rose};
 ghost use Rattle.switch_event.specs.Config.{empty};
+ghost use Rattle.event_record.specs.declared.TheConstants.{MOST_EVENTS};
+ghost use Rattle.history_defs.specs.declared.TheConstants.{MOST_OCTETS};
 ghost use Rattle.history_defs.specs.Output.{IsPlain};
 ghost use Rattle.history_defs.specs.Status.{status_text};
 ghost use Rattle.outside_text.specs.Streams.{Says};
-ghost use Rattle.race_run.specs.Ending.{OfText, EndsByFate, TakesGiven, HalfWritten, StopsShort, refusal_of, status_of, ending_text};
-ghost use Rattle.race_run.specs.Counts.{HalfCounted};
+ghost use Rattle.race_run.specs.Ending.{OfText, StopsShort, refusal_of, status_of, ending_text};
 ghost use Rattle.switch_top.specs.declared.form.Form.TheVariants.{Check as AsksCheck, Replay as AsksReplay};
 ghost use Rattle.switch_top.specs.Form.{form_of as asked};
-ghost use Rattle.switch_top.specs.Top.{CountsByFate, IsByText, IsStatus, OfGiven};
+ghost use Rattle.switch_top.specs.Top.{Counts, IsByText, IsStatus, OfGiven, Writes};
 
 use crate::form::{Form, form_of};
-use authenticator::Authenticator;
+use control_core::Core;
 use event_record::MOST_EVENTS;
 use history_defs::MOST_OCTETS;
 use outside_core::{Sink, Source};
+use outside_link::{Clock, Link};
 use race_run::{Ending, check_within, replay_within, say, say_ending, status, status_words};
 use std::alloc::Global;
+use std::net::Net;
+use std::sync::Wait;
+use std::thread::Threads;
 
 /// Runs the program of these words over a source, writes its output into `out` and what is said of
 /// its status into `err`, and answers the status. `check` counts the records of a trace; `replay`
-/// runs them on one thread, with this authenticator.
-pub fn switch_top<A: Authenticator + Drop, S: Source, K: Sink>(
+/// runs them on one thread.
+pub fn switch_top<S, K, L, C, T>(
+    rt: &T,
     alloc: Global,
     words: &[String],
     source: &mut S,
     out: &mut K,
     err: &mut K,
+    _link: &mut L,
+    _clock: &mut C,
 ) -> u8
+where
+    S: Source,
+    K: Sink,
+    L: Link,
+    C: Clock,
+    T: Threads + Wait + Net + Sync,
     // No other status comes. That of the words comes exactly where they are no form, and nothing
     // was read or written then.
     ensures statuses { IsStatus result }
     ensures usage { (result ≡ 2) ↔ (asked (map string_bytes words.now) ≡ None) }
     ensures unused { result ≡ 2 → (source.new ≡ source.old) × (out.new ≡ out.old) }
+    ensures apart { (_link.new ≡ _link.old) × (_clock.new ≡ _clock.old) }
 
     // The status is that of the text always, unless something outside failed or there was no
     // memory. A fault comes only where a count rose.
@@ -49,32 +64,19 @@ pub fn switch_top<A: Authenticator + Drop, S: Source, K: Sink>(
     // that of the phases that were given as a whole; after a write fault that of the phases before
     // the one of the last line that was given, and a part of its blocks; where there was no memory
     // that of the phases before the last line that was given.
-    ensures replayed { asked (map string_bytes words.now) ≡ Some AsksReplay → IsByText result
-        → OfText (S.left source.old) (λ b. EndsByFate IsPlain MOST_OCTETS MOST_EVENTS empty b
-        (K.taken out.old) (K.taken out.new) result) }
-    ensures read_output { asked (map string_bytes words.now) ≡ Some AsksReplay → result ≡ 4
-        → OfGiven (S.left source.old) (S.left source.new) (λ given.
-        TakesGiven IsPlain MOST_EVENTS empty given (K.taken out.old) (K.taken out.new)) }
-    ensures write_output { asked (map string_bytes words.now) ≡ Some AsksReplay → result ≡ 5
-        → OfGiven (S.left source.old) (S.left source.new) (λ given.
-        HalfWritten IsPlain MOST_OCTETS MOST_EVENTS empty given (S.left source.new)
-        (K.taken out.old) (K.taken out.new)) }
-    ensures memory_output { asked (map string_bytes words.now) ≡ Some AsksReplay → result ≡ 1
+    ensures replayed { asked (map string_bytes words.now) ≡ Some AsksReplay
+        → Writes IsPlain IsPlain MOST_OCTETS MOST_EVENTS empty (S.left source.old)
+        (S.left source.new) (K.taken out.old) (K.taken out.new) result }
+    ensures replay_short { asked (map string_bytes words.now) ≡ Some AsksReplay → result ≡ 1
         → OfGiven (S.left source.old) (S.left source.new) (λ given.
         StopsShort IsPlain MOST_OCTETS MOST_EVENTS empty given (S.left source.new)
         (K.taken out.old) (K.taken out.new)) }
 
     // `check`: the numbers of records and of control records were written where the text is one
     // that runs; after a write fault a part of them; and else nothing.
-    ensures checked { asked (map string_bytes words.now) ≡ Some AsksCheck → IsByText result
-        → OfText (S.left source.old) (λ b. CountsByFate MOST_OCTETS MOST_EVENTS empty b
-        (K.taken out.old) (K.taken out.new) result) }
-    ensures check_nothing { asked (map string_bytes words.now) ≡ Some AsksCheck
-        → (result ≡ 1) ⊎ (result ≡ 4) → Appends (K.taken out.old) (K.taken out.new) [] }
-    ensures check_part { asked (map string_bytes words.now) ≡ Some AsksCheck → result ≡ 5
-        → OfGiven (S.left source.old) (S.left source.new) (λ given.
-        HalfCounted MOST_OCTETS MOST_EVENTS empty given (S.left source.new)
-        (K.taken out.old) (K.taken out.new)) }
+    ensures checked { asked (map string_bytes words.now) ≡ Some AsksCheck
+        → Counts MOST_OCTETS MOST_EVENTS empty (S.left source.old) (S.left source.new)
+        (K.taken out.old) (K.taken out.new) result }
 
     // The text of the status was taken by `err`, all of it where its count did not rise.
     ensures said { result ≢ 3 → Says (K.taken err.old) (K.taken err.new)
@@ -89,11 +91,12 @@ pub fn switch_top<A: Authenticator + Drop, S: Source, K: Sink>(
             2
         }
         Some(Form::Check) => {
-            let ending = check_within(alloc, MOST_OCTETS, MOST_EVENTS as u64, source, out);
+            let ending = check_within(rt, alloc, MOST_OCTETS, MOST_EVENTS as u64, source, out);
             told(err, ending)
         }
         Some(Form::Replay) => {
-            let ending = replay_within::<A, S, K>(
+            let ending = replay_within::<Core, T, S, K>(
+                rt,
                 alloc,
                 MOST_OCTETS,
                 MOST_EVENTS as u64,
