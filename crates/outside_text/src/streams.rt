@@ -1,8 +1,8 @@
-// One octet from a source, and a text into a sink.
+// Octets from a source, and a text into a sink.
 ghost use Rattle.std.specs.Prelude.{◌≡◌, ◌≤◌, ◌<◌, ℕ, List, [], ◌∷◌, length, take, OnOk, OnErr, IfOk, MatchOption};
 ghost use Rattle.std.specs.Io.KnownBytes.{Appends, Keeps, Consumes, IsAtEnd};
 ghost use Rattle.wire_defs.specs.Outside.{HasCause};
-ghost use Rattle.outside_text.specs.Streams.{GivesOctet, TakesWhole, Says};
+ghost use Rattle.outside_text.specs.Streams.{GivesOctet, GivesPiece, TakesWhole, Says};
 
 use outside_core::{Failed, Sink, Source};
 
@@ -18,6 +18,18 @@ pub fn read_octet<S: Source>(source: &mut S) -> Result<Option<u8>, Failed>
     } else {
         Ok(Some(octet[0]))
     }
+}
+
+/// The next octets, as many as `buf` has room for and none beyond the first line feed; none only at
+/// the end of input. `buf` must have room for one.
+pub fn read_piece<'a, S: Source>(source: &mut S, buf: &'a mut [u8]) -> Result<&'a [u8], Failed>
+    requires room { 0 < length buf.old }
+    ensures octets { GivesPiece (S.left source.old) (S.left source.new) result }
+    ensures most { IfOk result (λ piece. length piece.now ≤ length buf.old) }
+    ensures cause { HasCause (S.faults source.old) (S.faults source.new) result }
+{
+    let count = source.read_line(buf)?;
+    Ok(&buf[..count])
 }
 
 /// Writes a whole text. After a failure the sink has taken a proper prefix of it.
