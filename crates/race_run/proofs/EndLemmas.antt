@@ -1,13 +1,11 @@
--- How a run ends: at an octet, and where no octet is left.
-use Rattle.std.proofs.Common.{inl, inr, ◌≡◌, ◌≢◌, ℕ, ◌+◌, ◌<◌, ◌≤◌, Bool, true, false, not, cond, ltb, eqb, take, List, [], ◌∷◌, ◌++◌, length, length-append, Option, None, Some, Ok, Err, refl, sym, ap, ◌∙◌, subst, arith, append_assoc, append-nil}
-use Rattle.std.specs.Prelude.{OnOk, IfErr, Result, option_map}
-use Rattle.std.specs.List.{before_first}
+-- How a run ends: at a piece of a line, and where no octet is left.
+use Rattle.std.proofs.Common.{inl, inr, ◌≡◌, ◌≢◌, ℕ, ◌+◌, ◌<◌, ◌≤◌, true, false, cond, List, [], ◌∷◌, ◌++◌, length, length-append, Option, Ok, Err, refl, sym, ap, ◌∙◌, subst, arith, append_assoc, append-nil}
+use Rattle.std.specs.Prelude.{OnOk, IfErr, Result}
 use Rattle.std.specs.Io.KnownBytes.{Keeps, Consumes, IsAtEnd}
-use Rattle.std.proofs.lemmas.Bool.Decides.{nat_tests}
 use Rattle.wire_defs.specs.Text.{last_line}
 use Rattle.wire_defs.proofs.OutsideLemmas.{Appends-none, Appends-kept, Consumes-none, Consumes-trans, Consumes-kept}
 use Rattle.switch_event.specs.Config.{Config, empty}
-use Rattle.trace_defs.specs.Alike.{ReadAlike, is_line_feed, len_to_feed}
+use Rattle.trace_defs.specs.Alike.{ReadAlike}
 use Rattle.trace_defs.proofs.AlikeLemmas.{ReadAlike-none}
 use Rattle.trace_defs.specs.Reading.{HasRead}
 use Rattle.trace_defs.specs.Trace.{Progress, read_lines, progress_of, reason_of, start, after_line}
@@ -18,44 +16,11 @@ use Rattle.race_run.specs.declared.run.Run.{Run}
 use Rattle.race_run.specs.declared.ending.Ending.{Ending}
 use Rattle.race_run.specs.declared.ending.Ending.TheVariants.{Done, NoMemory, Refused, ReadFault, WriteFault, Full, TooLong}
 use Rattle.race_run.specs.Runs.{Phased}
-use Rattle.race_run.specs.Ending.{EndsByFate, IsRefusedAt, TakesPhases, TakesEnded, RunEnds}
-use Rattle.race_run.specs.Run.{OfLine, IsAt, IsStart, Halts, StopsAtOctet, Steps, EndsTrace, EndsAtEnd, TakesOctet, HoldsLine, ended}
+use Rattle.race_run.specs.Ending.{EndsByFate, IsRefusedAt, TakesPhases, TakesEnded, EndsAfter, RunEnds}
+use Rattle.race_run.specs.Run.{OfLine, IsAt, IsStart, Halts, StopsAtPiece, Steps, EndsTrace, EndsAtEnd, TakesPiece, HoldsLine, ended}
+use Rattle.race_run.proofs.PieceLemmas.{IsPlain, HasRead-plain}
 use Rattle.race_run.proofs.StepLemmas.{IsAt-line, ran_of}
 use Rattle.race_run.proofs.FateLemmas.{contradiction, other_way, each, at_end, fits_within, EndsByFate-stopped, EndsByFate-going, EndsByFate-line, IsRefusedAt-stopped, IsRefusedAt-line}
-
--- what an octet that is fed alone tells
-before_one : (octet : ℕ) (b : Bool) → eqb octet 10 ≡ b → before_first is_line_feed (octet ∷ []) ≡ take (cond (not b) 1 0) (octet ∷ [])
-before_one octet b e = ap (λ t. take (cond (not t) 1 0) (octet ∷ [])) e
-
-len_one : (octet : ℕ) (b : Bool) → eqb octet 10 ≡ b → len_to_feed (octet ∷ []) ≡ cond b (Some 1) None
-len_one octet true e = ap (λ t. option_map (λ at. at + 1) (cond (ltb (cond (not t) 1 0) 1) (Some (cond (not t) 1 0)) None)) e
-len_one octet false e = ap (λ t. option_map (λ at. at + 1) (cond (ltb (cond (not t) 1 0) 1) (Some (cond (not t) 1 0)) None)) e
-
-pub no_feed : (octet : ℕ) → len_to_feed (octet ∷ []) ≡ None → (octet ≢ 10) × (before_first is_line_feed (octet ∷ []) ≡ octet ∷ [])
-no_feed octet none = step (eqb octet 10) refl
-  where
-    step : (b : Bool) → eqb octet 10 ≡ b → (octet ≢ 10) × (before_first is_line_feed (octet ∷ []) ≡ octet ∷ [])
-    step true e = absurd (contradiction (sym (len_one octet true e) ∙ none))
-      where
-        contradiction : {k : ℕ} → Some k ≡ None → ⊥
-        contradiction e = cc
-    step false e = (other octet e, before_one octet false e)
-      where
-        other : (octet : ℕ) → eqb octet 10 ≡ false → octet ≢ 10
-        other octet e = grind (arith, nat_tests)
-
-pub a_feed : (octet n : ℕ) → len_to_feed (octet ∷ []) ≡ Some n → (octet ≡ 10) × (before_first is_line_feed (octet ∷ []) ≡ [])
-a_feed octet n some = step (eqb octet 10) refl
-  where
-    step : (b : Bool) → eqb octet 10 ≡ b → (octet ≡ 10) × (before_first is_line_feed (octet ∷ []) ≡ [])
-    step true e = (is octet e, before_one octet true e)
-      where
-        is : (octet : ℕ) → eqb octet 10 ≡ true → octet ≡ 10
-        is octet e = grind (arith, nat_tests)
-    step false e = absurd (contradiction (sym (len_one octet false e) ∙ some))
-      where
-        contradiction : None ≡ Some n → ⊥
-        contradiction e = cc
 
 -- a run was given these octets and has not ended
 pub record HasReached {R : Type 0} (stands gave : R → Phased) (room : ℕ) (config : Config) (before left origin taken : Option (List ℕ)) (count : ℕ) (run : Run) (s : R) : Type 0 where
@@ -78,18 +43,18 @@ one_line (x ∷ rest) some = refl
 
 module _ {R : Type 0} (stands gave : R → Phased) where
   -- a line that ends the run, as the octet that ends the line was taken
-  StopsAtOctet-feed : (room : ℕ) (taken after : Option (List ℕ)) (run : Run) (s t : R) (ending : Ending) → OfLine run (λ line. Halts stands gave (λ p. after_line room p line) taken after run s t ending)
-      → StopsAtOctet stands gave room 10 taken after run s t ending
-  StopsAtOctet-feed room taken after run s t (Refused line why) h = λ limit config origin given p at read short left.
+  StopsAtPiece-feed : (room : ℕ) (taken after : Option (List ℕ)) (run : Run) (s t : R) (ending : Ending) → OfLine run (λ line. Halts stands gave (λ p. after_line room p line) taken after run s t ending)
+      → StopsAtPiece stands gave room (10 ∷ []) taken after run s t ending
+  StopsAtPiece-feed room taken after run s t (Refused line why) h = λ limit config origin given p at read short left.
       let ends = h read.part read.kept origin p at in
       each left (λ rest. (
-        EndsByFate-line (stands t) limit room config given rest read.part origin after p (IsRefused why) 3 read.read short ends.0 (λ fits. refl) ends.2,
-        IsRefusedAt-line limit room config given rest read.part p line why read.read short ends.0 ends.1,
+        EndsByFate-line (stands t) limit room config given rest read.part origin after p (IsRefused why) 3 read.read (omega (arith, short)) ends.0 (λ fits. refl) ends.2,
+        IsRefusedAt-line limit room config given rest read.part p line why read.read (omega (arith, short)) ends.0 ends.1,
       ))
-  StopsAtOctet-feed room taken after run s t Full h = λ limit config origin given p at read short left.
+  StopsAtPiece-feed room taken after run s t Full h = λ limit config origin given p at read short left.
       let ends = h read.part read.kept origin p at in
-      each left (λ rest. EndsByFate-line (stands t) limit room config given rest read.part origin after p IsFull 6 read.read short ends.0 (λ fits. refl) ends.1)
-  StopsAtOctet-feed room taken after run s t WriteFault h = λ limit config origin given p at read short left.
+      each left (λ rest. EndsByFate-line (stands t) limit room config given rest read.part origin after p IsFull 6 read.read (omega (arith, short)) ends.0 (λ fits. refl) ends.1)
+  StopsAtPiece-feed room taken after run s t WriteFault h = λ limit config origin given p at read short left.
       let half = h read.part read.kept origin p at in
       record {
         p = p;
@@ -97,15 +62,15 @@ module _ {R : Type 0} (stands gave : R → Phased) where
         part = half.3;
         short = omega (arith, length-append given (10 ∷ []));
       }
-  StopsAtOctet-feed room taken after run s t NoMemory h = λ limit config origin given p at read short left. record {
+  StopsAtPiece-feed room taken after run s t NoMemory h = λ limit config origin given p at read short left. record {
     p = p;
     place = inl (record { before = given; last = 10 ∷ []; split = refl; one = omega arith; lines = read.read.lines });
     output = h read.part read.kept origin p at;
     short = omega (arith, length-append given (10 ∷ []));
   }
-  StopsAtOctet-feed room taken after run s t Done h = λ limit config origin given p at read short left. absurd (h read.part read.kept)
-  StopsAtOctet-feed room taken after run s t ReadFault h = λ limit config origin given p at read short left. absurd (h read.part read.kept)
-  StopsAtOctet-feed room taken after run s t TooLong h = λ limit config origin given p at read short left. absurd (h read.part read.kept)
+  StopsAtPiece-feed room taken after run s t Done h = λ limit config origin given p at read short left. absurd (h read.part read.kept)
+  StopsAtPiece-feed room taken after run s t ReadFault h = λ limit config origin given p at read short left. absurd (h read.part read.kept)
+  StopsAtPiece-feed room taken after run s t TooLong h = λ limit config origin given p at read short left. absurd (h read.part read.kept)
 
   -- a trace without the word that ends the settings
   pub EndsTrace-missing : (room : ℕ) (taken after : Option (List ℕ)) (run : Run) (s : R) → run.begun ≡ false → Keeps taken after → EndsTrace stands gave room taken after run s s (Refused (run.lines + 1) 13)
@@ -147,29 +112,32 @@ module _ {R : Type 0} (stands gave : R → Phased) where
   EndsTrace-halts room taken after old s t TooLong h = absurd h
 
   -- a line was ended
-  pub TakesOctet-feed : {T E : Type 0} (r : Result T E) (room octet : ℕ) (taken after : Option (List ℕ)) (old mid new : Run) (s t : R) → octet ≡ 10 → mid ≡ record old { line = mid.line }
-      → ((line : List ℕ) → ReadAlike old.line.text line → ReadAlike mid.line.text line) → OfLine mid (λ line. OnOk r (Steps stands gave (λ p. after_line room p line) taken after mid new s t))
-      → OnOk r (new.line ≡ record { text = []; ended = false }) → OnOk r (TakesOctet stands gave room octet taken after old new s t)
-  TakesOctet-feed (Err e) room octet taken after old mid new s t feed same keeps steps next = tt
-  TakesOctet-feed (Ok x) room octet taken after old mid new s t feed same keeps steps next = λ config origin given p at held.
-      let step = steps held.part (keeps held.part held.kept) origin p (IsAt-line stands gave origin taken old mid s p same at) in (
+  pub TakesPiece-feed : {T E : Type 0} (r : Result T E) (room : ℕ) (piece front : List ℕ) (taken after : Option (List ℕ)) (old mid new : Run) (s t : R) → (piece ≡ front ++ 10 ∷ []) × IsPlain front → mid ≡ record old { line = mid.line }
+      → ((line : List ℕ) → ReadAlike old.line.text line → ReadAlike mid.line.text (line ++ front)) → OfLine mid (λ line. OnOk r (Steps stands gave (λ p. after_line room p line) taken after mid new s t))
+      → OnOk r (new.line ≡ record { text = []; ended = false }) → OnOk r (TakesPiece stands gave room piece taken after old new s t)
+  TakesPiece-feed (Err e) room piece front taken after old mid new s t feed same keeps steps next = tt
+  TakesPiece-feed (Ok x) room piece front taken after old mid new s t feed same keeps steps next = λ config origin given p at held.
+      let read = HasRead-plain room config given p held.part front held.read feed.1 in
+      let step = steps (held.part ++ front) (keeps held.part held.kept) origin p (IsAt-line stands gave origin taken old mid s p same at) in (
         step.0,
         step.2,
         record {
           part = [];
           kept = subst (λ l. ReadAlike l []) (sym (ap (λ l. l.text) next)) ReadAlike-none;
-          read = subst (λ o. HasRead room config (given ++ o ∷ []) step.0 []) (sym feed) (HasRead-feed room config given p step.0 held.part held.read step.1);
+          read = subst (λ l. HasRead room config l step.0 []) (append_assoc given front (10 ∷ []) ∙ ap (λ l. given ++ l) (sym feed.0)) (HasRead-feed room config (given ++ front) p step.0 (held.part ++ front) read step.1);
         },
       )
 
   -- or it ends the run
-  pub StopsAtOctet-fed : {T : Type 0} (r : Result T Ending) (room octet : ℕ) (taken after : Option (List ℕ)) (old mid : Run) (s t : R) → octet ≡ 10 → mid ≡ record old { line = mid.line }
-      → ((line : List ℕ) → ReadAlike old.line.text line → ReadAlike mid.line.text line) → OfLine mid (λ line. IfErr r (λ e. Halts stands gave (λ p. after_line room p line) taken after mid s t e))
-      → IfErr r (λ e. StopsAtOctet stands gave room octet taken after old s t e)
-  StopsAtOctet-fed (Ok x) room octet taken after old mid s t feed same keeps halts = tt
-  StopsAtOctet-fed (Err e) room octet taken after old mid s t feed same keeps halts = subst (λ o. StopsAtOctet stands gave room o taken after old s t e) (sym feed) (λ limit config origin given p at held short left.
-      StopsAtOctet-feed room taken after mid s t e halts limit config origin given p (IsAt-line stands gave origin taken old mid s p same at)
-      (record { part = held.part; kept = keeps held.part held.kept; read = held.read }) short left)
+  pub StopsAtPiece-fed : {T : Type 0} (r : Result T Ending) (room : ℕ) (piece front : List ℕ) (taken after : Option (List ℕ)) (old mid : Run) (s t : R) → (piece ≡ front ++ 10 ∷ []) × IsPlain front → mid ≡ record old { line = mid.line }
+      → ((line : List ℕ) → ReadAlike old.line.text line → ReadAlike mid.line.text (line ++ front)) → OfLine mid (λ line. IfErr r (λ e. Halts stands gave (λ p. after_line room p line) taken after mid s t e))
+      → IfErr r (λ e. StopsAtPiece stands gave room piece taken after old s t e)
+  StopsAtPiece-fed (Ok x) room piece front taken after old mid s t feed same keeps halts = tt
+  StopsAtPiece-fed (Err e) room piece front taken after old mid s t feed same keeps halts = λ limit config origin given p at held short left.
+      subst (λ l. EndsAfter (gave t) (stands t) limit room config l left origin after e) (append_assoc given front (10 ∷ []) ∙ ap (λ l. given ++ l) (sym feed.0))
+      (StopsAtPiece-feed room taken after mid s t e halts limit config origin (given ++ front) p (IsAt-line stands gave origin taken old mid s p same at)
+      (record { part = held.part ++ front; kept = keeps held.part held.kept; read = HasRead-plain room config given p held.part front held.read feed.1 })
+      (omega (arith, short, ap length feed.0, length-append given front, length-append front (10 ∷ []))) left)
 
   -- no octet stands after the last line feed
   pub EndsAtEnd-none : (room : ℕ) (taken after : Option (List ℕ)) (run : Run) (s t : R) (ending : Ending) → run.line.text ≡ [] → EndsTrace stands gave room taken after run s t ending → EndsAtEnd stands gave room taken after run s t ending
@@ -248,16 +216,16 @@ module _ {R : Type 0} (stands gave : R → Phased) where
     read = record { part = []; kept = subst (λ l. ReadAlike l []) (sym (ap (λ l. l.text) is.line)) ReadAlike-none; read = HasRead-none room empty };
   }
 
-  -- after another octet
-  pub HasReached-more : (room : ℕ) (config : Config) (before left rest origin taken after : Option (List ℕ)) (count octet : ℕ) (old new : Run) (s t : R)
-      → HasReached stands gave room config before left origin taken count old s → Consumes left rest (octet ∷ []) → TakesOctet stands gave room octet taken after old new s t
-      → HasReached stands gave room config before rest origin after (count + 1) new t
-  HasReached-more room config before left rest origin taken after count octet old new s t r one takes =
+  -- after another piece
+  pub HasReached-more : (room : ℕ) (config : Config) (before left rest origin taken after : Option (List ℕ)) (count : ℕ) (piece : List ℕ) (old new : Run) (s t : R)
+      → HasReached stands gave room config before left origin taken count old s → Consumes left rest piece → TakesPiece stands gave room piece taken after old new s t
+      → HasReached stands gave room config before rest origin after (count + length piece) new t
+  HasReached-more room config before left rest origin taken after count piece old new s t r one takes =
       let step = takes config origin r.given r.p r.at r.read in record {
-        given = r.given ++ octet ∷ [];
+        given = r.given ++ piece;
         p = step.0;
-        consumed = Consumes-trans before left rest r.given (octet ∷ []) r.consumed one;
-        counted = length-append r.given (octet ∷ []) ∙ ap (λ n. n + 1) r.counted;
+        consumed = Consumes-trans before left rest r.given piece r.consumed one;
+        counted = length-append r.given piece ∙ ap (λ n. n + length piece) r.counted;
         at = step.1;
         read = step.2;
       }
@@ -268,21 +236,22 @@ module _ {R : Type 0} (stands gave : R → Phased) where
   RunEnds-end limit room config before left rest origin taken after count run s t ending r short kept end ends =
       (r.given, Consumes-kept before left rest r.given r.consumed kept, ends limit config origin r.given r.p r.at r.read (omega (arith, r.counted)) rest end)
 
-  pub RunEnds-octet : (limit room : ℕ) (config : Config) (before left rest origin taken after : Option (List ℕ)) (count octet : ℕ) (run : Run) (s t : R) (ending : Ending)
-      → HasReached stands gave room config before left origin taken count run s → count < limit → Consumes left rest (octet ∷ []) → StopsAtOctet stands gave room octet taken after run s t ending
+  pub RunEnds-piece : (limit room : ℕ) (config : Config) (before left rest origin taken after : Option (List ℕ)) (count : ℕ) (piece : List ℕ) (run : Run) (s t : R) (ending : Ending)
+      → HasReached stands gave room config before left origin taken count run s → count + length piece ≤ limit → Consumes left rest piece → StopsAtPiece stands gave room piece taken after run s t ending
       → RunEnds (gave t) (stands t) limit room config before rest origin after ending
-  RunEnds-octet limit room config before left rest origin taken after count octet run s t ending r short one stops =
-      (r.given ++ octet ∷ [], Consumes-trans before left rest r.given (octet ∷ []) r.consumed one, stops limit config origin r.given r.p r.at r.read (omega (arith, r.counted)) rest)
+  RunEnds-piece limit room config before left rest origin taken after count piece run s t ending r short one stops =
+      (r.given ++ piece, Consumes-trans before left rest r.given piece r.consumed one, stops limit config origin r.given r.p r.at r.read (omega (arith, r.counted, short)) rest)
 
-  pub RunEnds-long : (limit room : ℕ) (config : Config) (before left rest origin taken : Option (List ℕ)) (count octet : ℕ) (run : Run) (s : R)
-      → HasReached stands gave room config before left origin taken count run s → count ≡ limit → Consumes left rest (octet ∷ []) → RunEnds (gave s) (stands s) limit room config before rest origin taken TooLong
-  RunEnds-long limit room config before left rest origin taken count octet run s r full one = (
-    r.given ++ octet ∷ [],
-    Consumes-trans before left rest r.given (octet ∷ []) r.consumed one,
+  pub RunEnds-long : (limit room : ℕ) (config : Config) (before left rest origin taken : Option (List ℕ)) (count : ℕ) (piece : List ℕ) (run : Run) (s : R)
+      → HasReached stands gave room config before left origin taken count run s → count ≡ limit → 0 < length piece → Consumes left rest piece
+      → RunEnds (gave s) (stands s) limit room config before rest origin taken TooLong
+  RunEnds-long limit room config before left rest origin taken count piece run s r full some one = (
+    r.given ++ piece,
+    Consumes-trans before left rest r.given piece r.consumed one,
     each rest (λ more.
-        let long = trace_of-long limit room config r.given (octet ∷ more) r.read.part r.p r.read.read (r.counted ∙ full) (omega arith) in
-        subst (λ text. EndsByFate (stands s) limit room config text origin taken 8) (sym (append_assoc r.given (octet ∷ []) more))
-        (EndsByFate-going (stands s) limit room config (r.given ++ octet ∷ more) origin taken r.p false 8 long.0 long.1 refl (ran_of stands gave origin taken run s r.p r.at))),
+        let long = trace_of-long limit room config r.given (piece ++ more) r.read.part r.p r.read.read (r.counted ∙ full) (omega (arith, some, length-append piece more)) in
+        subst (λ text. EndsByFate (stands s) limit room config text origin taken 8) (sym (append_assoc r.given piece more))
+        (EndsByFate-going (stands s) limit room config (r.given ++ (piece ++ more)) origin taken r.p false 8 long.0 long.1 refl (ran_of stands gave origin taken run s r.p r.at))),
   )
 
   pub RunEnds-fault : (limit room : ℕ) (config : Config) (before left rest origin taken : Option (List ℕ)) (count : ℕ) (run : Run) (s : R)

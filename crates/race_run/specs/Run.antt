@@ -1,5 +1,5 @@
 -- How far a run is, and how it goes on.
-use Rattle.std.specs.Prelude.{◌≡◌, ◌<◌, ◌≤◌, ◌+◌, ◌++◌, ◌∷◌, [], ℕ, List, length, Option, Result, Ok, Err, true, false}
+use Rattle.std.specs.Prelude.{◌≡◌, ◌≤◌, ◌+◌, ◌++◌, ◌∷◌, [], ℕ, List, length, Option, Result, Ok, Err, true, false}
 use Rattle.std.specs.List.{AllByRecursion}
 use Rattle.std.specs.Io.KnownBytes.{Appends, IsAtEnd}
 use Rattle.switch_event.specs.Config.{Config, empty}
@@ -120,23 +120,24 @@ pub record HoldsLine (room : ℕ) (config : Config) (given : List ℕ) (p : Prog
 abbrev pub OfLine : Run → (List ℕ → Type 0) → Type 0
 OfLine run P = (line : List ℕ) → ReadAlike run.line.text line → P line
 
--- an octet was taken
-abbrev pub TakesOctet : {R : Type 0} → (stands gave : R → Phased) → (room octet : ℕ)
+-- a piece of a line was taken
+abbrev pub TakesPiece : {R : Type 0} → (stands gave : R → Phased) → (room : ℕ) → (piece : List ℕ)
     → (taken after : Option (List ℕ)) → (old new : Run) → (s t : R) → Type 0
-TakesOctet stands gave room octet taken after old new s t =
+TakesPiece stands gave room piece taken after old new s t =
     (config : Config) (origin : Option (List ℕ)) (given : List ℕ) (p : Progress)
     → IsAt stands gave origin taken old s p → HoldsLine room config given p old
     → (q : Progress) × IsAt stands gave origin after new t q
-    × HoldsLine room config (given ++ octet ∷ []) q new
+    × HoldsLine room config (given ++ piece) q new
 
--- the run ends at an octet
-abbrev pub StopsAtOctet : {R : Type 0} → (stands gave : R → Phased) → (room octet : ℕ)
-    → (taken after : Option (List ℕ)) → (old : Run) → (s t : R) → Ending → Type 0
-StopsAtOctet stands gave room octet taken after old s t ending =
+-- the run ends at a piece of a line
+abbrev pub StopsAtPiece : {R : Type 0} → (stands gave : R → Phased) → (room : ℕ)
+    → (piece : List ℕ) → (taken after : Option (List ℕ)) → (old : Run) → (s t : R)
+    → Ending → Type 0
+StopsAtPiece stands gave room piece taken after old s t ending =
     (limit : ℕ) (config : Config) (origin : Option (List ℕ)) (given : List ℕ) (p : Progress)
     → IsAt stands gave origin taken old s p → HoldsLine room config given p old
-    → length given < limit → (left : Option (List ℕ))
-    → EndsAfter (gave t) (stands t) limit room config (given ++ octet ∷ []) left origin after ending
+    → length given + length piece ≤ limit → (left : Option (List ℕ))
+    → EndsAfter (gave t) (stands t) limit room config (given ++ piece) left origin after ending
 
 -- the run ends where no octet is left
 abbrev pub EndsAtEnd : {R : Type 0} → (stands gave : R → Phased) → (room : ℕ)

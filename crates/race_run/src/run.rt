@@ -1,23 +1,27 @@
-// A run over a source, octet by octet and line by line.
-ghost use Rattle.std.specs.Prelude.{◌≡◌, ◌≤◌, ◌<◌, ◌+◌, ◌^◌, ℕ, [], OnOk, IfErr, IfOk, false};
+// A run over a source, piece by piece and line by line.
+ghost use Rattle.std.specs.Prelude.{◌≡◌, ◌≤◌, ◌<◌, ◌+◌, ◌^◌, ℕ, [], length, OnOk, IfErr, IfOk, false};
 ghost use Rattle.wire_defs.specs.Outside.{Rose};
+ghost use Rattle.outside_core.specs.Lines.{StopsAtFeed};
 ghost use Rattle.trace_defs.specs.Trace.{after_line};
 ghost use Rattle.switch_event.specs.Config.{empty};
 ghost use Rattle.event_record.specs.declared.TheConstants.{MOST_EVENTS};
 ghost use Rattle.race_run.specs.declared.ending.Ending.TheVariants.{ReadFault, WriteFault};
 ghost use Rattle.race_run.specs.Ending.{HasEndingCause, EndingCause, RunEnds};
-ghost use Rattle.race_run.specs.Run.{IsStart, IsSound, OfLine, Steps, Halts, TakesOctet, StopsAtOctet, EndsAtEnd, EndsTrace, given_by};
+ghost use Rattle.race_run.specs.Run.{IsStart, IsSound, OfLine, Steps, Halts, TakesPiece, StopsAtPiece, EndsAtEnd, EndsTrace, given_by};
 
 use crate::ending::Ending;
 use crate::runs::RunsPhases;
 use outside_core::{Failed, Sink, Source};
-use outside_text::read_octet;
+use outside_text::read_piece;
 use std::alloc::{AllocError, Global};
 use std::sync::Wait;
 use std::thread::Threads;
 use trace_defs::MISSING;
 use trace_lang::{Config, Line, LineErr, Lines, read_line};
 use trace_record::TraceRecord;
+
+// A line is asked for in pieces of at most so many octets.
+const PIECE: usize = 256;
 
 /// How far a run is.
 #[derive(Drop)]
@@ -104,13 +108,13 @@ impl Run {
         }
     }
 
-    /// Takes an octet of a line, or the line feed that ends it.
-    fn take_octet<T: Threads + Wait + Sync, R: RunsPhases, K: Sink>(
+    /// Takes a piece of a line, behind which the line feed that ends the line may stand.
+    fn take_piece<T: Threads + Wait + Sync, R: RunsPhases, K: Sink>(
         &mut self,
         rt: &T,
         alloc: Global,
         room: u64,
-        octet: u8,
+        piece: &[u8],
         runner: &mut R,
         out: &mut K,
     ) -> Result<(), Ending>
@@ -118,17 +122,18 @@ impl Run {
         requires short { self.old.lines + 1 < 2 ^ 63 }
         requires room { room ≤ MOST_EVENTS }
         requires begun_line { self.old.line.ended ≡ false }
+        requires piece { StopsAtFeed (length piece.now) piece.now }
         ensures line { OnOk result (self.new.line.ended ≡ false) }
-        ensures ok { OnOk result (TakesOctet R.stands (given_by R.numbers R.gave) room octet
+        ensures ok { OnOk result (TakesPiece R.stands (given_by R.numbers R.gave) room piece.now
             (K.taken out.old) (K.taken out.new) self.old self.new runner.old runner.new) }
-        ensures err { IfErr result (λ e. StopsAtOctet R.stands (given_by R.numbers R.gave) room
-            octet (K.taken out.old) (K.taken out.new) self.old runner.old runner.new e) }
+        ensures err { IfErr result (λ e. StopsAtPiece R.stands (given_by R.numbers R.gave) room
+            piece.now (K.taken out.old) (K.taken out.new) self.old runner.old runner.new e) }
         ensures cause { HasEndingCause (K.faults out.old) (K.faults out.new) result }
         ensures sound { OnOk result (IsSound R.fresh R.stands self.new runner.new ×
             (self.new.lines ≤ self.old.lines + 1)) }
         ensures same { R.numbers runner.new ≡ R.numbers runner.old }
     {
-        match self.line.feed(&[octet]) {
+        match self.line.feed(piece) {
             None => Ok(()),
             Some(_) => self.end_line(rt, alloc, room, runner, out),
         }
@@ -245,18 +250,21 @@ impl Run {
             × (K.faults out.old ≤ K.faults out.new) }
     {
         let mut count = 0;
-        'octets: loop {
-            match read_octet(source) {
+        let mut buf = [0; PIECE];
+        'pieces: loop {
+            // At the limit one octet is asked for, to see whether there is one.
+            let most = PIECE.min(limit - count).max(1);
+            match read_piece(source, &mut buf[..most]) {
                 Err(Failed) => return Ending::ReadFault,
-                Ok(None) => {
-                    return self.finish(rt, alloc, room, runner, out);
-                }
-                Ok(Some(octet)) => {
+                Ok(piece) => {
+                    if piece.is_empty() {
+                        return self.finish(rt, alloc, room, runner, out);
+                    }
                     if count == limit {
                         return Ending::TooLong;
                     }
-                    count += 1;
-                    if let Err(ending) = self.take_octet(rt, alloc, room, octet, runner, out) {
+                    count += piece.len();
+                    if let Err(ending) = self.take_piece(rt, alloc, room, piece, runner, out) {
                         return ending;
                     }
                 }

@@ -4,8 +4,8 @@ use Rattle.switch_event.specs.Config.{empty}
 use Rattle.race_run.proofs.EndLemmas.{HasReached}
 use Rattle.race_run.proofs.run.Run.take_all.Given as goal
 
-abbrev pub invariant-octets : goal.invariant-octets
-invariant-octets g l = record {
+abbrev pub invariant-pieces : goal.invariant-pieces
+invariant-pieces g l = record {
   within : l.count ≤ l.limit;
   lines : l.self.lines ≤ l.count;
   sound : IsSound g.R.RunsPhases.fresh g.R.RunsPhases.stands l.self l.runner;
@@ -16,5 +16,5 @@ invariant-octets g l = record {
   out_later : g.K.Sink.faults l.fn.out ≤ g.K.Sink.faults l.out;
 }
 
-abbrev pub decreases-octets : goal.decreases-octets
-decreases-octets g l = l.limit - l.count
+abbrev pub decreases-pieces : goal.decreases-pieces
+decreases-pieces g l = l.limit - l.count
