@@ -1,6 +1,6 @@
 -- What a call on a host promises: to each value that the host stands for it does what settling
 -- does.
-use Rattle.std.specs.Prelude.{◌≡◌, ℕ, ◌++◌, List, [], map}
+use Rattle.std.specs.Prelude.{◌≡◌, ℕ, ◌++◌, List, [], map, Option, None, Some}
 use Rattle.switch_event.specs.Sent.{Sent, ToHost}
 use Rattle.switch_event.specs.Frames.{eap_frame, frames}
 use Rattle.out_tray.specs.Tray.{Things}
@@ -59,6 +59,11 @@ Says h m from to = to ≡ with_sent (frames_by h m.packets) from
 
 abbrev pub SaysFrom : Common → Move → (from to : Things) → Type 0
 SaysFrom c m from to = to ≡ with_sent (frames_from c m.packets) from
+
+-- of a session that goes on
+abbrev pub SaysBy : Option Common → Move → (from to : Things) → Type 0
+SaysBy None m from to = to ≡ from
+SaysBy (Some c) m from to = SaysFrom c m from to
 
 abbrev pub OpensFrom : Common → (from to : Things) → Type 0
 OpensFrom c from to = SaysFrom c (first_round c) from to

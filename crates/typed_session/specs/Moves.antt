@@ -1,6 +1,8 @@
 -- What each event makes of a host, and the EAP packets that it sends. No public promise speaks of
 -- these: the calls promise what settling gives, and this is how they do it.
-use Rattle.std.specs.Prelude.{ℕ, ◌+◌, Bool, true, false, not, ◌&&◌, ◌||◌, nat_lt, if◌then◌else◌, List, [], ◌∷◌, drop, slice_index}
+use Rattle.std.specs.Prelude.{◌≡◌, ℕ, ◌+◌, Bool, true, false, not, ◌&&◌, ◌||◌, nat_lt, if◌then◌else◌, List, [], ◌∷◌, drop, slice_index, Option, None, Some}
+use Rattle.std.specs.Borrow.{Bor}
+use Rattle.std.specs.Option.{option_map}
 use Rattle.wire_defs.specs.Eap.{identity_request}
 use Rattle.machine_defs.specs.EapTable.{next_id, idle_time, response_fits, is_identity}
 use Rattle.machine_defs.specs.Live.{as_octets}
@@ -28,19 +30,22 @@ abbrev pub numbered : Common → Common
 numbered c = record c { id = next_id c.id }
 
 -- the identity is asked for, under the next identifier
+abbrev pub asked_anew : Common → (status : Bool) → (tries : ℕ) → Asked
+asked_anew c status tries = record {
+  common = numbered c;
+  status = status;
+  tries = tries;
+  sent = 0;
+  wait = 10;
+  method = 0;
+  local = true;
+  due = false;
+  request = as_octets (identity_request (next_id c.id));
+}
+
 abbrev pub identity_asked : Common → (status : Bool) → (tries : ℕ) → Move
 identity_asked c status tries = record {
-  host = host.Request (record {
-    common = numbered c;
-    status = status;
-    tries = tries;
-    sent = 0;
-    wait = 10;
-    method = 0;
-    local = true;
-    due = false;
-    request = as_octets (identity_request (next_id c.id));
-  });
+  host = host.Request (asked_anew c status tries);
   packets = identity_request (next_id c.id) ∷ [];
 }
 
@@ -66,6 +71,34 @@ new_round c status start logoff tries =
 -- the first
 abbrev pub first_round : Common → Move
 first_round c = new_round c false false false 0
+
+-- ---- a new round in whichever state
+
+-- what each state holds, of a session that goes on
+abbrev pub kept_by : Host → Option Common
+kept_by (host.Request a) = Some a.common
+kept_by (host.Ignore a) = Some a.common
+kept_by (host.Server a) = Some a.common
+kept_by (host.GaveUp a) = Some a.common
+kept_by (host.Authenticated a) = Some a.common
+kept_by (host.Held a) = Some a.common
+kept_by (host.Ended a) = None
+
+abbrev pub kept_in : Option (Bor Common) → Option Common
+kept_in common = option_map (λ (c : Bor Common). c.now) common
+
+-- the identity is asked for, under the identifier after `id`
+abbrev pub asked_by : Option Common → (id : ℕ) → (status : Bool) → (tries : ℕ) → Host → Move
+asked_by None id status tries h = silent h
+asked_by (Some c) id status tries h = identity_asked (record c { id = id }) status tries
+
+abbrev pub end_by : Option Common → Host → Move
+end_by None h = silent h
+end_by (Some c) h = end_of c
+
+abbrev pub round_by : Option Common → (status start logoff : Bool) → (tries : ℕ) → Host → Move
+round_by None status start logoff tries h = silent h
+round_by (Some c) status start logoff tries h = new_round c status start logoff tries
 
 -- ---- the host begins, or logs off
 
@@ -112,6 +145,22 @@ to_server eap a = record {
   latest = as_octets eap;
   response = as_octets eap;
 }
+
+-- in either state in which the host is asked: a response fits, goes to the server, or is ignored
+abbrev pub Fits : (eap : List ℕ) → Host → Type 0
+Fits eap (host.Request a) = response_fits eap a.common.id a.local ≡ true
+Fits eap (host.Ignore a) = response_fits eap a.common.id a.local ≡ true
+Fits eap h = Unit {0}
+
+abbrev pub served_by : (eap : List ℕ) → Host → Host
+served_by eap (host.Request a) = host.Server (to_server eap a)
+served_by eap (host.Ignore a) = host.Server (to_server eap a)
+served_by eap h = h
+
+abbrev pub ignored_by : Host → Host
+ignored_by (host.Request a) = host.Ignore (record a { wait = idle_time a.method })
+ignored_by (host.Ignore a) = host.Ignore (record a { wait = idle_time a.method })
+ignored_by h = h
 
 -- a response to what was asked goes to the server, and another packet is ignored
 abbrev pub answered : (eap : List ℕ) → Asked → Host
@@ -204,6 +253,20 @@ abbrev pub after_accept : (eap : List ℕ) → (again : Bool) → (period : ℕ)
 after_accept eap again n (host.Server a) = after_word eap (let_in (timed again n a.common) a.due)
 after_accept eap again n h = after_change again n h
 
+-- ---- an answer, in the state in which the server is asked
+
+abbrev pub asked_on_by : (eap : List ℕ) → (wait : ℕ) → Host → Host
+asked_on_by eap wait (host.Server a) = host.Request (from_server eap wait a)
+asked_on_by eap wait h = h
+
+abbrev pub waiting_by : Host → Host
+waiting_by (host.Server a) = host.Ignore (waiting_again a)
+waiting_by h = h
+
+abbrev pub admitted_by : Option Common → Host → Host
+admitted_by None h = h
+admitted_by (Some c) h = host.Authenticated (record { common = c; tries = 0 })
+
 -- the host is shut out for the quiet period
 abbrev pub shut_out : Served → Host
 shut_out a = host.Held (record {
@@ -213,6 +276,10 @@ shut_out a = host.Held (record {
   starts = false;
   logs_off = false;
 })
+
+abbrev pub shut_out_by : Host → Host
+shut_out_by (host.Server a) = shut_out a
+shut_out_by h = h
 
 abbrev pub after_reject : (eap : List ℕ) → Host → Move
 after_reject eap (host.Server a) = record { host = shut_out a; packets = eap ∷ [] }

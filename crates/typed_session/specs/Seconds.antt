@@ -34,14 +34,25 @@ wound status c left = record c { left = if is_due status c left then c.period el
 -- reauthentication `left`
 
 -- the request is sent again, the fourth time no more
+abbrev pub once_more : Asked → Asked
+once_more a = record a { sent = a.sent + 1; wait = idle_time a.method }
+
 abbrev pub asked_again : Asked → Move
 asked_again a =
     if nat_lt 3 (a.sent + 1)
     then new_round (dropped a.common) a.status false false a.tries
-    else record {
-      host = host.Request (record a { sent = a.sent + 1; wait = idle_time a.method });
-      packets = a.request.items ∷ [];
-    }
+    else record { host = host.Request (once_more a); packets = a.request.items ∷ [] }
+
+-- in either state in which the host is asked
+abbrev pub again_by : Host → Move
+again_by (host.Request a) = asked_again a
+again_by (host.Ignore a) = asked_again a
+again_by h = silent h
+
+-- what it sends is heeded again
+abbrev pub heeded : Host → Host
+heeded (host.Ignore a) = host.Request a
+heeded h = h
 
 abbrev pub asked_still : (wait : ℕ) → (state : Asked → Host) → Asked → Move
 asked_still wait state a =
@@ -71,6 +82,11 @@ served_second gave_up wait left a =
       wait = wait;
       due = is_due a.status a.common left || a.due;
     })))
+
+-- in the state in which it is asked
+abbrev pub lapsed_by : Host → Host
+lapsed_by (host.Server a) = host.GaveUp (lapsed a.common a.wait a)
+lapsed_by h = h
 
 abbrev pub lapsed_second : (wait left : ℕ) → Lapsed → Move
 lapsed_second wait left a =

@@ -32,13 +32,11 @@ impl Common {
     }
 
     // What was asked of the server is no longer wanted.
-    pub(crate) fn dropped(&self) -> Common
-        ensures { result ≡ dropped self.now }
+    pub(crate) fn drop_request(&mut self)
+        ensures { self.new ≡ dropped self.old }
     {
-        let mut common = self.copy();
-        common.ask = false;
-        common.abort = true;
-        common
+        self.ask = false;
+        self.abort = true;
     }
 
     // Sends an EAP packet to the host.
@@ -66,4 +64,13 @@ pub(crate) fn octets(eap: &[u8]) -> ArrayVec<u8, 1500>
     let mut octets = ArrayVec::new();
     let _fits = octets.try_extend_from_slice(eap);
     octets
+}
+
+// From now on it has these octets.
+pub(crate) fn fill(octets: &mut ArrayVec<u8, 1500>, eap: &[u8])
+    requires { length eap.now ≤ 1500 }
+    ensures { octets.new ≡ as_octets eap.now }
+{
+    octets.clear();
+    let _fits = octets.try_extend_from_slice(eap);
 }

@@ -1,48 +1,91 @@
-ghost use Rattle.std.specs.Prelude.{◌≡◌, ◌≤◌, ◌<◌, ◌+◌, nat_lt, false};
+ghost use Rattle.std.specs.Prelude.{◌≡◌, ◌≤◌, ◌<◌, ◌+◌, nat_lt, [], ◌∷◌, false};
 ghost use Rattle.out_tray.specs.Tray.{spare};
-ghost use Rattle.typed_session.specs.Seconds.{asked_again, lapsed, after_second};
-ghost use Rattle.typed_session.specs.Follows.{SaysFrom, Says};
+ghost use Rattle.typed_session.specs.Seconds.{after_second, again_by, heeded, lapsed_by, once_more};
+ghost use Rattle.typed_session.specs.Follows.{Says, frames_from, with_sent};
 
-use crate::host::{Asked, Host, Lapsed, Served};
+use crate::host::{Asked, Host, Lapsed};
 use crate::round::new_round;
 use crate::second::wind;
 use crate::waiting::idle_time;
 use out_tray::Tray;
 
-// Whether a request was sent too often to be sent again.
-fn is_spent(sent: u32) -> bool
-    ensures value { result ≡ nat_lt 3 (sent + 1) }
-    ensures room { result ≡ false → sent < 3 }
+impl Asked {
+    // Whether the request was sent too often to be sent again.
+    fn is_spent(&self) -> bool
+        ensures value { result ≡ nat_lt 3 (self.now.sent + 1) }
+        ensures room { result ≡ false → self.now.sent < 3 }
+    {
+        self.sent >= 3
+    }
+
+    // The request is sent again.
+    fn send_again(&mut self, tray: &mut Tray)
+        requires few { self.old.sent < 3 }
+        requires spare { 1534 ≤ spare tray.old }
+        ensures asked { self.new ≡ once_more self.old }
+        ensures sent { tray.new
+            ≡ with_sent (frames_from self.old.common (self.old.request.items ∷ [])) tray.old }
+        ensures room { spare tray.old ≤ spare tray.new + 1534 }
+    {
+        self.common.send(self.request.as_slice(), tray);
+        self.sent += 1;
+        self.wait = idle_time(self.method);
+    }
+}
+
+// What a host sends that was ignored is heeded again.
+fn heed(host: &mut Host)
+    ensures { host.new ≡ heeded host.old }
 {
-    sent >= 3
+    if let Host::Ignore(a) = host {
+        let asked = a.copy();
+        *host = Host::Request(asked);
+    }
 }
 
 // The request is sent again, the fourth time no more.
-fn ask_again(a: &Asked, tray: &mut Tray) -> Host
+fn ask_again(host: &mut Host, tray: &mut Tray)
     requires { 1534 ≤ spare tray.old }
-    ensures host { result ≡ (asked_again a.now).host }
-    ensures sent { SaysFrom a.now.common (asked_again a.now) tray.old tray.new }
+    ensures host { host.new ≡ (again_by host.old).host }
+    ensures sent { Says host.old (again_by host.old) tray.old tray.new }
     ensures room { spare tray.old ≤ spare tray.new + 1534 }
 {
-    if is_spent(a.sent) {
-        return new_round(a.common.dropped(), a.status, false, false, a.tries, tray);
+    match host {
+        Host::Request(a) => {
+            if a.is_spent() {
+                a.common.drop_request();
+                let (status, tries) = (a.status, a.tries);
+                new_round(host, status, false, false, tries, tray);
+            } else {
+                a.send_again(tray);
+            }
+        }
+        Host::Ignore(a) => {
+            if a.is_spent() {
+                a.common.drop_request();
+                let (status, tries) = (a.status, a.tries);
+                new_round(host, status, false, false, tries, tray);
+            } else {
+                a.send_again(tray);
+                heed(host);
+            }
+        }
+        _ => {}
     }
-    a.common.send(a.request.as_slice(), tray);
-    let mut asked = a.copy();
-    asked.sent += 1;
-    asked.wait = idle_time(asked.method);
-    Host::Request(asked)
 }
 
 // The server was given up.
-fn lapse(a: &Served) -> Lapsed
-    ensures { result ≡ lapsed a.now.common a.now.wait a.now }
+fn lapse(host: &mut Host)
+    ensures { host.new ≡ lapsed_by host.old }
 {
-    Lapsed {
-        common: a.common.copy(),
-        status: a.status,
-        tries: a.tries,
-        wait: a.wait,
+    if let Host::Server(a) = host {
+        let lapsed = Lapsed {
+            common: a.common.copy(),
+            status: a.status,
+            tries: a.tries,
+            wait: a.wait,
+        };
+        *host = Host::GaveUp(lapsed);
     }
 }
 
@@ -59,41 +102,47 @@ pub(crate) fn expire(host: &mut Host, gave_up: bool, tray: &mut Tray)
             a.due = wind(&mut a.common, a.status) || a.due;
             a.wait = a.wait.saturating_sub(1);
             if a.wait == 0 {
-                *host = ask_again(a, tray);
+                ask_again(host, tray);
             }
         }
         Host::Ignore(a) => {
             a.due = wind(&mut a.common, a.status) || a.due;
             a.wait = a.wait.saturating_sub(1);
             if a.wait == 0 {
-                *host = ask_again(a, tray);
+                ask_again(host, tray);
             }
         }
         Host::Server(a) => {
             a.due = wind(&mut a.common, a.status) || a.due;
             a.wait = a.wait.saturating_sub(1);
             if a.wait == 0 {
-                *host = new_round(a.common.dropped(), a.status, false, false, a.tries, tray);
+                a.common.drop_request();
+                let (status, tries) = (a.status, a.tries);
+                new_round(host, status, false, false, tries, tray);
             } else if gave_up {
-                *host = Host::GaveUp(lapse(a));
+                lapse(host);
             }
         }
         Host::GaveUp(a) => {
             let _due = wind(&mut a.common, a.status);
             a.wait = a.wait.saturating_sub(1);
             if a.wait == 0 {
-                *host = new_round(a.common.dropped(), a.status, false, false, a.tries, tray);
+                a.common.drop_request();
+                let (status, tries) = (a.status, a.tries);
+                new_round(host, status, false, false, tries, tray);
             }
         }
         Host::Authenticated(a) => {
             if wind(&mut a.common, true) {
-                *host = new_round(a.common.copy(), true, false, false, a.tries, tray);
+                let tries = a.tries;
+                new_round(host, true, false, false, tries, tray);
             }
         }
         Host::Held(a) => {
             a.wait = a.wait.saturating_sub(1);
             if a.wait == 0 {
-                *host = new_round(a.common.copy(), false, a.starts, a.logs_off, a.tries, tray);
+                let (starts, logs_off, tries) = (a.starts, a.logs_off, a.tries);
+                new_round(host, false, starts, logs_off, tries, tray);
             }
         }
         Host::Ended(_) => {}

@@ -15,18 +15,23 @@ pub(crate) fn log_off(host: &mut Host, tray: &mut Tray)
     ensures room { spare tray.old ≤ spare tray.new + 1534 }
 {
     match host {
-        Host::Request(a) | Host::Ignore(a) => {
-            *host = new_round(a.common.dropped(), false, false, false, 0, tray);
+        Host::Request(a) => {
+            a.common.drop_request();
+            new_round(host, false, false, false, 0, tray);
+        }
+        Host::Ignore(a) => {
+            a.common.drop_request();
+            new_round(host, false, false, false, 0, tray);
         }
         Host::Server(a) => {
-            *host = new_round(a.common.dropped(), false, false, false, 0, tray);
+            a.common.drop_request();
+            new_round(host, false, false, false, 0, tray);
         }
         Host::GaveUp(a) => {
-            *host = new_round(a.common.dropped(), false, false, false, 0, tray);
+            a.common.drop_request();
+            new_round(host, false, false, false, 0, tray);
         }
-        Host::Authenticated(a) => {
-            *host = new_round(a.common.copy(), false, false, false, 0, tray);
-        }
+        Host::Authenticated(_) => new_round(host, false, false, false, 0, tray),
         Host::Held(a) => a.logs_off = true,
         Host::Ended(_) => {}
     }

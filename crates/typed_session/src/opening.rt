@@ -9,7 +9,7 @@ ghost use Rattle.typed_session.specs.Cares.{Begins};
 ghost use Rattle.typed_session.specs.Follows.{EndsIn, OpensFrom};
 
 use crate::host::{Common, Host};
-use crate::round::new_round;
+use crate::round::{blank, new_round};
 use arrayvec::ArrayVec;
 use machine_vars::Times;
 use out_tray::Tray;
@@ -34,7 +34,9 @@ fn begin(port: u8, own: Mac, peer: Mac, t: &Times, tray: &mut Tray) -> Host
     ensures sent { OpensFrom (opening port own.0 peer.0 t.now) tray.old tray.new }
     ensures room { spare tray.old ≤ spare tray.new + 1534 }
 {
-    new_round(opening(port, own, peer, t), false, false, false, 0, tray)
+    let mut host = Host::Request(blank(opening(port, own, peer, t)));
+    new_round(&mut host, false, false, false, 0, tray);
+    host
 }
 
 fn opening(port: u8, own: Mac, peer: Mac, t: &Times) -> Common

@@ -1,4 +1,5 @@
 ghost use Rattle.std.specs.Prelude.{◌≡◌, ◌≤◌, ◌+◌, length, true};
+ghost use Rattle.typed_session.specs.Moves.{kept_by, kept_in};
 ghost use Rattle.typed_session.specs.Reads.{status_of, id_of, wants_of, is_held, rested, cleared, identity_of, response_of, known_of, known_by};
 
 use crate::host::{Common, Host, Known};
@@ -14,6 +15,20 @@ pub(crate) fn status(host: &Host) -> bool
         Host::GaveUp(a) => a.status,
         Host::Authenticated(_) => true,
         Host::Held(_) | Host::Ended(_) => false,
+    }
+}
+
+// What each state holds, of a session that goes on.
+pub(crate) fn common(host: &Host) -> Option<&Common>
+    ensures { kept_in result ≡ kept_by host.now }
+{
+    match host {
+        Host::Request(a) | Host::Ignore(a) => Some(&a.common),
+        Host::Server(a) => Some(&a.common),
+        Host::GaveUp(a) => Some(&a.common),
+        Host::Authenticated(a) => Some(&a.common),
+        Host::Held(a) => Some(&a.common),
+        Host::Ended(_) => None,
     }
 }
 

@@ -1,8 +1,8 @@
 ghost use Rattle.std.specs.Prelude.{◌≡◌, ◌≤◌, ◌<◌, ◌+◌, length, true};
 ghost use Rattle.machine_defs.specs.EapTable.{response_fits};
-ghost use Rattle.typed_session.specs.Moves.{after_packet, to_server, answered};
+ghost use Rattle.typed_session.specs.Moves.{Fits, after_packet, ignored_by, served_by, to_server};
 
-use crate::common::octets;
+use crate::common::{fill, octets};
 use crate::host::{Asked, Host, Served};
 use crate::waiting::{idle_time, is_identity, response_fits};
 
@@ -53,32 +53,57 @@ fn to_server(eap: &[u8], a: &Asked) -> Served
     }
 }
 
-// A response to what was asked goes to the server, and another packet is ignored.
-pub(crate) fn answer(eap: &[u8], a: &Asked) -> Host
-    requires { length eap.now ≤ 1500 }
-    ensures { result ≡ answered eap.now a.now }
+// The response of a host that is asked goes to the server.
+fn ask_server(host: &mut Host, eap: &[u8])
+    requires short { length eap.now ≤ 1500 }
+    requires fits { Fits eap.now host.old }
+    ensures { host.new ≡ served_by eap.now host.old }
 {
-    if response_fits(eap, a.common.id, a.local) {
-        Host::Server(to_server(eap, a))
-    } else {
-        let mut asked = a.copy();
-        asked.wait = idle_time(asked.method);
-        Host::Ignore(asked)
+    if let Host::Request(a) | Host::Ignore(a) = host {
+        *host = Host::Server(to_server(eap, a));
     }
 }
 
-// An EAP packet of the host. While the server is asked it is kept, and looked at where the server
-// asks on without a packet.
+// What a host sends that is asked is ignored.
+fn ignore(host: &mut Host)
+    ensures { host.new ≡ ignored_by host.old }
+{
+    match host {
+        Host::Request(a) => {
+            let mut asked = a.copy();
+            asked.wait = idle_time(a.method);
+            *host = Host::Ignore(asked);
+        }
+        Host::Ignore(a) => a.wait = idle_time(a.method),
+        _ => {}
+    }
+}
+
+// An EAP packet of the host. A response to what was asked goes to the server, and another packet is
+// ignored. While the server is asked it is kept, and looked at where the server asks on without a
+// packet.
 pub(crate) fn receive(host: &mut Host, eap: &[u8])
     requires { length eap.now ≤ 1500 }
     ensures { host.new ≡ (after_packet eap.now host.old).host }
 {
     match host {
-        Host::Request(a) | Host::Ignore(a) => *host = answer(eap, a),
+        Host::Request(a) => {
+            if response_fits(eap, a.common.id, a.local) {
+                ask_server(host, eap);
+            } else {
+                ignore(host);
+            }
+        }
+        Host::Ignore(a) => {
+            if response_fits(eap, a.common.id, a.local) {
+                ask_server(host, eap);
+            } else {
+                ignore(host);
+            }
+        }
         Host::Server(a) => {
             a.heard = true;
-            a.latest.clear();
-            let _fits = a.latest.try_extend_from_slice(eap);
+            fill(&mut a.latest, eap);
         }
         _ => {}
     }

@@ -1,80 +1,135 @@
-ghost use Rattle.std.specs.Prelude.{◌≡◌, ◌≤◌, ◌<◌, ◌+◌, false};
+ghost use Rattle.std.specs.Prelude.{◌≡◌, ◌≤◌, ◌<◌, ◌+◌, ◌^◌, false};
 ghost use Rattle.out_tray.specs.Tray.{spare};
-ghost use Rattle.typed_session.specs.Moves.{identity_asked, new_round, end_of, is_tired};
-ghost use Rattle.typed_session.specs.Follows.{SaysFrom};
+ghost use Rattle.typed_session.specs.Moves.{asked_anew, asked_by, end_by, identity_asked, is_tired, kept_by, round_by};
+ghost use Rattle.typed_session.specs.Follows.{SaysBy, SaysFrom};
 
-use crate::common::{next_id, octets};
+use crate::common::{fill, next_id};
 use crate::host::{Asked, Closed, Common, Host};
+use crate::read::common;
+use arrayvec::ArrayVec;
 use out_tray::Tray;
 
-// The identity is asked for, under the next identifier.
-fn ask_identity(common: Common, status: bool, tries: u32, tray: &mut Tray) -> Host
-    requires { 1534 ≤ spare tray.old }
-    ensures host { result ≡ (identity_asked common status tries).host }
-    ensures sent { SaysFrom common (identity_asked common status tries) tray.old tray.new }
-    ensures room { spare tray.old ≤ spare tray.new + 1534 }
+impl Asked {
+    // The identity is asked for, under the identifier after `id`.
+    fn ask_identity(&mut self, id: u8, status: bool, tries: u32, tray: &mut Tray)
+        requires { 1534 ≤ spare tray.old }
+        ensures asked { self.new ≡ asked_anew (record self.old.common { id = id }) status tries }
+        ensures sent { SaysFrom self.old.common
+            (identity_asked (record self.old.common { id = id }) status tries) tray.old tray.new }
+        ensures room { spare tray.old ≤ spare tray.new + 1534 }
+    {
+        let id = next_id(id);
+        let packet = [1, id, 0, 5, 1];
+        self.common.send(&packet, tray);
+        self.common.id = id;
+        self.status = status;
+        self.tries = tries;
+        self.sent = 0;
+        self.wait = 10;
+        self.method = 0;
+        self.local = true;
+        self.due = false;
+        fill(&mut self.request, &packet);
+    }
+}
+
+// A host of which no more than this is known.
+pub(crate) fn blank(common: Common) -> Asked
+    ensures { result.common ≡ common }
 {
-    let id = next_id(common.id);
-    let packet = [1, id, 0, 5, 1];
-    common.send(&packet, tray);
-    let mut common = common;
-    common.id = id;
-    Host::Request(Asked {
+    Asked {
         common,
-        status,
-        tries,
+        status: false,
+        tries: 0,
         sent: 0,
-        wait: 10,
+        wait: 0,
         method: 0,
         local: true,
         due: false,
-        request: octets(&packet),
-    })
+        request: ArrayVec::new(),
+    }
+}
+
+// The identity is asked for, under the identifier after `id`. A host that was asked before is changed
+// in place, without a value of its size.
+fn ask_identity(host: &mut Host, id: u8, status: bool, tries: u32, tray: &mut Tray)
+    requires { 1534 ≤ spare tray.old }
+    ensures host { host.new ≡ (asked_by (kept_by host.old) id status tries host.old).host }
+    ensures sent { SaysBy (kept_by host.old) (asked_by (kept_by host.old) id status tries host.old)
+        tray.old tray.new }
+    ensures room { spare tray.old ≤ spare tray.new + 1534 }
+{
+    match host {
+        Host::Request(a) => a.ask_identity(id, status, tries, tray),
+        _ => ask_other(host, id, status, tries, tray),
+    }
+}
+
+// The same, from another state.
+fn ask_other(host: &mut Host, id: u8, status: bool, tries: u32, tray: &mut Tray)
+    requires { 1534 ≤ spare tray.old }
+    ensures host { host.new ≡ (asked_by (kept_by host.old) id status tries host.old).host }
+    ensures sent { SaysBy (kept_by host.old) (asked_by (kept_by host.old) id status tries host.old)
+        tray.old tray.new }
+    ensures room { spare tray.old ≤ spare tray.new + 1534 }
+{
+    if let Some(common) = common(host) {
+        let mut asked = blank(common.copy());
+        asked.ask_identity(id, status, tries, tray);
+        *host = Host::Request(asked);
+    }
+}
+
+// The session ends, without a word.
+fn end(host: &mut Host)
+    ensures { host.new ≡ (end_by (kept_by host.old) host.old).host }
+{
+    if let Some(common) = common(host) {
+        let closed = Closed {
+            id: next_id(common.id),
+            ask: common.ask,
+            abort: common.abort,
+        };
+        *host = Host::Ended(closed);
+    }
 }
 
 // Whether to ask once more would be too often.
 fn is_tired(common: &Common, tries: u32) -> bool
     ensures value { result ≡ is_tired common.now tries }
-    ensures room { result ≡ false → tries < common.now.times.reauth_max }
+    ensures room { result ≡ false → tries + 1 < 2 ^ 32 }
 {
     tries >= common.times.reauth_max
-}
-
-// The session ends, without a word.
-fn end(common: &Common) -> Host
-    ensures { result ≡ (end_of common.now).host }
-{
-    Host::Ended(Closed {
-        id: next_id(common.id),
-        ask: common.ask,
-        abort: common.abort,
-    })
 }
 
 // The identity is asked for once more. After a Logoff, or where that would be too often, the host
 // is shut out and asked as if for the first time, under the second identifier from now; a host that
 // was shut out before and has not begun anew is given up.
 pub(crate) fn new_round(
-    common: Common,
+    host: &mut Host,
     status: bool,
     start: bool,
     logoff: bool,
     tries: u32,
     tray: &mut Tray,
-) -> Host
+)
     requires { 1534 ≤ spare tray.old }
-    ensures host { result ≡ (new_round common status start logoff tries).host }
-    ensures sent { SaysFrom common (new_round common status start logoff tries) tray.old tray.new }
+    ensures host { host.new
+        ≡ (round_by (kept_by host.old) status start logoff tries host.old).host }
+    ensures sent { SaysBy (kept_by host.old)
+        (round_by (kept_by host.old) status start logoff tries host.old) tray.old tray.new }
     ensures room { spare tray.old ≤ spare tray.new + 1534 }
 {
-    let tired = is_tired(&common, tries);
+    let Some(common) = common(host) else {
+        return;
+    };
+    let id = common.id;
+    let tired = is_tired(common, tries);
     if !logoff && !tired {
-        return ask_identity(common, status, tries + 1, tray);
+        ask_identity(host, id, status, tries + 1, tray);
+    } else if !status && !start && tired {
+        end(host);
+    } else {
+        ask_identity(host, next_id(id), false, 1, tray);
     }
-    if !status && !start && tired {
-        return end(&common);
-    }
-    let mut common = common;
-    common.id = next_id(common.id);
-    ask_identity(common, false, 1, tray)
 }

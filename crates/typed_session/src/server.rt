@@ -1,11 +1,12 @@
 ghost use Rattle.std.specs.Prelude.{◌≡◌, ◌≤◌, ◌<◌, ◌+◌, length};
 ghost use Rattle.out_tray.specs.Tray.{spare};
-ghost use Rattle.typed_session.specs.Moves.{from_server, waiting_again, let_in, shut_out, after_challenge, after_notice, after_accept, after_reject};
-ghost use Rattle.typed_session.specs.Follows.{SaysFrom, Says};
+ghost use Rattle.typed_session.specs.Moves.{admitted_by, after_accept, after_challenge, after_notice, after_reject, asked_on_by, from_server, kept_by, shut_out_by, waiting_again, waiting_by};
+ghost use Rattle.typed_session.specs.Follows.{Says};
 
 use crate::common::octets;
-use crate::host::{Admitted, Asked, Common, Host, Refused, Served};
-use crate::receive::answer;
+use crate::host::{Admitted, Asked, Host, Refused, Served};
+use crate::read::common;
+use crate::receive::receive;
 use crate::round::new_round;
 use crate::times::{change, set_timer};
 use crate::waiting::idle_time;
@@ -32,6 +33,17 @@ fn from_server(eap: &[u8], wait: u32, a: &Served) -> Asked
     }
 }
 
+fn ask_on(host: &mut Host, eap: &[u8], wait: u32)
+    requires long { 2 ≤ length eap.now }
+    requires short { length eap.now ≤ 1500 }
+    ensures { host.new ≡ asked_on_by eap.now wait host.old }
+{
+    if let Host::Server(a) = host {
+        let asked = from_server(eap, wait, a);
+        *host = Host::Request(asked);
+    }
+}
+
 // The server asks on. Where it was not asked only the time for a response is taken over.
 pub(crate) fn challenge(host: &mut Host, eap: &[u8], wait: u32, tray: &mut Tray)
     requires long { 2 ≤ length eap.now }
@@ -46,7 +58,7 @@ pub(crate) fn challenge(host: &mut Host, eap: &[u8], wait: u32, tray: &mut Tray)
         Host::Ignore(a) => a.method = wait,
         Host::Server(a) => {
             a.common.send(eap, tray);
-            *host = Host::Request(from_server(eap, wait, a));
+            ask_on(host, eap, wait);
         }
         _ => {}
     }
@@ -69,35 +81,45 @@ fn waiting_again(a: &Served) -> Asked
     }
 }
 
+fn wait_again(host: &mut Host)
+    ensures { host.new ≡ waiting_by host.old }
+{
+    if let Host::Server(a) = host {
+        let asked = waiting_again(a);
+        *host = Host::Ignore(asked);
+    }
+}
+
 // The server asks on without a packet: a packet of the host that came since is looked at.
 pub(crate) fn notice(host: &mut Host)
     ensures { host.new ≡ (after_notice host.old).host }
 {
     if let Host::Server(a) = host {
-        let asked = waiting_again(a);
         if a.heard {
-            *host = answer(a.latest.as_slice(), &asked);
+            let latest = octets(a.latest.as_slice());
+            wait_again(host);
+            receive(host, latest.as_slice());
         } else {
-            *host = Host::Ignore(asked);
+            wait_again(host);
         }
     }
 }
 
-// The host is let in, and asked anew at once where that is due.
-fn let_in(common: Common, due: bool, tray: &mut Tray) -> Host
-    requires { 1534 ≤ spare tray.old }
-    ensures host { result ≡ (let_in common due).host }
-    ensures sent { SaysFrom common (let_in common due) tray.old tray.new }
-    ensures room { spare tray.old ≤ spare tray.new + 1534 }
+// The host is let in.
+fn let_in(host: &mut Host)
+    ensures { host.new ≡ admitted_by (kept_by host.old) host.old }
 {
-    if due {
-        new_round(common, true, false, false, 0, tray)
-    } else {
-        Host::Authenticated(Admitted { common, tries: 0 })
+    if let Some(common) = common(host) {
+        let admitted = Admitted {
+            common: common.copy(),
+            tries: 0,
+        };
+        *host = Host::Authenticated(admitted);
     }
 }
 
-// The server accepts. Where it was not asked only the times are taken over.
+// The server accepts: the host is let in, and asked anew at once where that is due. Where the server
+// was not asked only the times are taken over.
 pub(crate) fn accept(host: &mut Host, eap: &[u8], again: bool, period: u32, tray: &mut Tray)
     requires short { length eap.now ≤ 1500 }
     requires spare { 3068 ≤ spare tray.old }
@@ -107,25 +129,31 @@ pub(crate) fn accept(host: &mut Host, eap: &[u8], again: bool, period: u32, tray
 {
     if let Host::Server(a) = host {
         a.common.send(eap, tray);
-        let mut common = a.common.copy();
-        set_timer(&mut common, again, period);
-        *host = let_in(common, a.due, tray);
+        set_timer(&mut a.common, again, period);
+        if a.due {
+            new_round(host, true, false, false, 0, tray);
+        } else {
+            let_in(host);
+        }
     } else {
         change(host, again, period);
     }
 }
 
 // The host is shut out for the quiet period.
-fn shut_out(a: &Served) -> Host
-    ensures { result ≡ shut_out a.now }
+fn shut_out(host: &mut Host)
+    ensures { host.new ≡ shut_out_by host.old }
 {
-    Host::Held(Refused {
-        common: a.common.copy(),
-        tries: a.tries,
-        wait: a.common.times.quiet,
-        starts: false,
-        logs_off: false,
-    })
+    if let Host::Server(a) = host {
+        let refused = Refused {
+            common: a.common.copy(),
+            tries: a.tries,
+            wait: a.common.times.quiet,
+            starts: false,
+            logs_off: false,
+        };
+        *host = Host::Held(refused);
+    }
 }
 
 // The server refuses.
@@ -138,6 +166,6 @@ pub(crate) fn refuse(host: &mut Host, eap: &[u8], tray: &mut Tray)
 {
     if let Host::Server(a) = host {
         a.common.send(eap, tray);
-        *host = shut_out(a);
+        shut_out(host);
     }
 }

@@ -15,17 +15,29 @@ pub(crate) fn start(host: &mut Host, tray: &mut Tray)
     ensures room { spare tray.old ≤ spare tray.new + 1534 }
 {
     match host {
-        Host::Request(a) | Host::Ignore(a) => {
-            *host = new_round(a.common.dropped(), a.status, true, false, a.tries, tray);
+        Host::Request(a) => {
+            a.common.drop_request();
+            let (status, tries) = (a.status, a.tries);
+            new_round(host, status, true, false, tries, tray);
+        }
+        Host::Ignore(a) => {
+            a.common.drop_request();
+            let (status, tries) = (a.status, a.tries);
+            new_round(host, status, true, false, tries, tray);
         }
         Host::Server(a) => {
-            *host = new_round(a.common.dropped(), a.status, true, false, a.tries, tray);
+            a.common.drop_request();
+            let (status, tries) = (a.status, a.tries);
+            new_round(host, status, true, false, tries, tray);
         }
         Host::GaveUp(a) => {
-            *host = new_round(a.common.dropped(), a.status, true, false, a.tries, tray);
+            a.common.drop_request();
+            let (status, tries) = (a.status, a.tries);
+            new_round(host, status, true, false, tries, tray);
         }
         Host::Authenticated(a) => {
-            *host = new_round(a.common.copy(), true, true, false, a.tries, tray);
+            let tries = a.tries;
+            new_round(host, true, true, false, tries, tray);
         }
         Host::Held(a) => a.starts = true,
         Host::Ended(_) => {}
