@@ -37,6 +37,23 @@ pub record IsLeft (x : Standing) (k : Session) (w : Wants) : Type 0 where
   pub sits : SitsAs k (rested Another x x.vars)
   pub wants : IsWanted w x.vars
 
+-- nothing is wanted of the server's side, and the session goes on
+abbrev pub nothing : Wants
+nothing = record { ask = false; abort = false; gone = false }
+
+-- whether nothing falls due in a second for a session whose host is let in
+abbrev pub is_idle : Session → Bool
+is_idle k = not (k.end_while == 1) && host.is_idle k.host
+
+-- such a second, in which the server is not given up: the session settles, and nothing is sent or
+-- wanted; its host was Authorized, and is
+pub record Idles (k l : Session) (x : Standing) : Type 0 where
+  pub settles : (tray : Things) →
+      Settles Another (set_vars (live.Second false) (record x { end_while = x.end_while - 1 })) l nothing
+      tray tray
+  pub before : x.vars.auth_port_status ≡ true
+  pub after : (settled (set (live.Second false) x.vars)).vars.auth_port_status ≡ true
+
 -- how the session of a host begins, on a port with this address and this native VLAN
 abbrev pub beginning : (port : ℕ) → (own peer : List ℕ) → (native : ℕ) → Times → Standing
 beginning port own peer native times = record {

@@ -163,10 +163,13 @@ nothing_by (host.Authenticated a) = refl
 nothing_by (host.Held a) = refl
 nothing_by (host.Ended a) = refl
 
--- so the tray stays
-pub received_unsaid : (eap : List ℕ) (h : Host) (before : Things) → before ≡ with_sent (frames_by h (move (Packet eap) h).packets) before
-received_unsaid eap h before =
+-- where nothing is sent the tray stays
+pub unsaid : (h : Host) (packets : List (List ℕ)) (before : Things) → packets ≡ [] → before ≡ with_sent (frames_by h packets) before
+unsaid h packets before none =
     let P : List (List ℕ) → Type 0 = λ xs. before ≡ with_sent (frames_by h xs) before in
     let Q : List Sent → Type 0 = λ xs. before ≡ with_sent xs before in
     let R : List Sent → Type 0 = λ xs. before ≡ record before { items = xs } in
-    subst P (sym (received_silent eap h)) (subst Q (sym (nothing_by h)) (subst R (sym (append-nil before.items)) refl))
+    subst P (sym none) (subst Q (sym (nothing_by h)) (subst R (sym (append-nil before.items)) refl))
+
+pub received_unsaid : (eap : List ℕ) (h : Host) (before : Things) → before ≡ with_sent (frames_by h (move (Packet eap) h).packets) before
+received_unsaid eap h before = unsaid h (move (Packet eap) h).packets before (received_silent eap h)

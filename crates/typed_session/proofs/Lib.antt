@@ -5,3 +5,4 @@ pub mod Lands
 pub mod Shapes
 pub mod Born
 pub mod Caring
+pub mod Idling

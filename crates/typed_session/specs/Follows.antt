@@ -1,13 +1,13 @@
 -- What a call on a host promises: to each value that the host stands for it does what settling
 -- does.
-use Rattle.std.specs.Prelude.{◌≡◌, ℕ, ◌++◌, List, [], map, Option, None, Some}
+use Rattle.std.specs.Prelude.{◌≡◌, ℕ, true, false, ◌++◌, List, [], map, Option, None, Some}
 use Rattle.switch_event.specs.Sent.{Sent, ToHost}
 use Rattle.switch_event.specs.Frames.{eap_frame, frames}
 use Rattle.out_tray.specs.Tray.{Things}
 use Rattle.machine_vars.specs.declared.vars.Vars.{Vars}
 use Rattle.machine_vars.specs.declared.verdict.Verdict.{Verdict}
 use Rattle.machine_defs.specs.Words.{event_of, wanted, period}
-use Rattle.machine_defs.specs.Live.{Event, set, Change}
+use Rattle.machine_defs.specs.Live.{Event, set, Change, Second, cleared}
 use Rattle.settle_defs.specs.Settle.{Rest, settled}
 use Rattle.typed_session.specs.declared.host.Common.{Common}
 use Rattle.typed_session.specs.declared.host.Host.{Host}
@@ -38,6 +38,20 @@ abbrev pub SetsTimes : (again : ℕ) → (before after : Host) → Type 0
 SetsTimes again h k =
     (v : Vars) → Stands h v →
     Stands k (set (Change (wanted again v.times) (period again v.times)) v)
+
+-- the host is Authorized, goes on, and nothing is left to be done for the server's side
+pub record IsLetIn (h : Host) (v : Vars) : Type 0 where
+  pub status : v.auth_port_status ≡ true
+  pub ask : v.aaa_eap_resp ≡ false
+  pub abort : v.aaa_abort ≡ false
+  pub gone : v.gone ≡ false
+  pub cleared : Stands h (cleared v)
+
+-- a second in which the server is not given up: nothing was sent, and a host that was let in still is
+pub record Idles (h k : Host) : Type 0 where
+  pub follows : (tray : Things) → Follows (Second false) h k tray tray
+  pub before : (v : Vars) → Stands h v → IsLetIn h v
+  pub after : (v : Vars) → Stands k v → IsLetIn k v
 
 -- ---- how a call does it: the frames of some packets, from what a host holds
 

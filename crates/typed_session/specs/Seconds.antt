@@ -103,6 +103,17 @@ admitted_second left a =
     then new_round c true false false a.tries
     else silent (host.Authenticated (record a { common = c }))
 
+-- it is not, and its timer falls
+abbrev pub fallen : Admitted → Admitted
+fallen a = record a { common = record a.common { left = time_left true a.common } }
+
+-- whether nothing falls due in a second for a host that is let in, and nothing is left to be done for
+-- the server's side
+abbrev pub is_idle : Host → Bool
+is_idle (host.Authenticated a) =
+    not (a.common.ask || a.common.abort) && not (is_due true a.common (time_left true a.common))
+is_idle h = false
+
 -- the host may be asked again
 abbrev pub refused_second : (wait left : ℕ) → Refused → Move
 refused_second wait left a =

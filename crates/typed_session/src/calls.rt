@@ -4,14 +4,15 @@ ghost use Rattle.machine_defs.specs.Live.{Start as Begin, Logoff, Packet, Notice
 ghost use Rattle.out_tray.specs.Tray.{spare};
 ghost use Rattle.typed_session.specs.Stands.{Stands};
 ghost use Rattle.typed_session.specs.Reads.{ShowsIdentity, ShowsResponse, wants_of, is_server, is_held, IsTold, IsHeld};
+ghost use Rattle.typed_session.specs.Seconds.{is_idle};
 ghost use Rattle.typed_session.specs.Cares.{Cares, Named, Rests, Leaves};
-ghost use Rattle.typed_session.specs.Follows.{Follows, FollowsWord, SetsTimes};
+ghost use Rattle.typed_session.specs.Follows.{Follows, FollowsWord, Idles, SetsTimes};
 
 use crate::host::Host;
 use crate::log_off::log_off;
 use crate::read::{clear, flags, id, identity, is_held, response, status};
 use crate::receive::receive;
-use crate::second::second;
+use crate::second::{idle, second};
 use crate::start::start;
 use crate::times::retime;
 use crate::verdict::tell;
@@ -74,6 +75,18 @@ impl Host {
         ensures room { spare tray.old ≤ spare tray.new + 1534 }
     {
         second(self, gave_up, tray);
+    }
+
+    /// A second goes by for a host that is let in, where the server is not given up, nothing falls due
+    /// and nothing is left to be done for the server's side: its timer falls in place, and nothing is
+    /// sent. The answer says whether it was such a second; else nothing is done, and `on_second` does
+    /// it.
+    pub fn idle(&mut self) -> bool
+        ensures idle { result ≡ is_idle self.old }
+        ensures idles { result ≡ true → Idles self.old self.new }
+        ensures stays { result ≡ false → self.new ≡ self.old }
+    {
+        idle(self)
     }
 
     /// Whether the host is Authorized: authPortStatus.

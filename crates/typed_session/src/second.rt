@@ -1,10 +1,10 @@
-ghost use Rattle.std.specs.Prelude.{◌≡◌, ◌≤◌, ◌+◌};
+ghost use Rattle.std.specs.Prelude.{◌≡◌, ◌≤◌, ◌+◌, not, true, false};
 ghost use Rattle.out_tray.specs.Tray.{spare};
-ghost use Rattle.typed_session.specs.Seconds.{is_still, time_left, is_due, wound, after_second, Ticks};
+ghost use Rattle.typed_session.specs.Seconds.{Ticks, after_second, fallen, is_due, is_idle, is_still, time_left, wound};
 ghost use Rattle.typed_session.specs.Follows.{Says};
 
 use crate::expiry::expire;
-use crate::host::{Common, Host};
+use crate::host::{Admitted, Common, Host};
 use out_tray::Tray;
 
 // Whether the timer of reauthentication stands: while the host is not Authorized, or not to be
@@ -42,6 +42,35 @@ pub(crate) fn wind(common: &mut Common, status: bool) -> bool
     let due = is_due(common, status, left);
     common.left = if due { common.period } else { left };
     due
+}
+
+impl Admitted {
+    // The timer falls by a second in which it does not run out. Whether it was one; else nothing is
+    // done.
+    fn fall(&mut self) -> bool
+        ensures due { result ≡ not (is_due true self.old.common (time_left true self.old.common)) }
+        ensures falls { result ≡ true → self.new ≡ fallen self.old }
+        ensures stays { result ≡ false → self.new ≡ self.old }
+    {
+        let left = time_left(&self.common, true);
+        if is_due(&self.common, true, left) {
+            return false;
+        }
+        self.common.left = left;
+        true
+    }
+}
+
+// A second of a host that is let in, in which nothing falls due and nothing is left to be done for
+// the server's side. Whether it was one; else nothing is done.
+pub(crate) fn idle(host: &mut Host) -> bool
+    ensures idle { result ≡ is_idle host.old }
+    ensures ticks { Ticks false result host.old host.new }
+{
+    match host {
+        Host::Authenticated(a) => !(a.common.ask || a.common.abort) && a.fall(),
+        _ => false,
+    }
 }
 
 // A second in which the host stays in its state and nothing is sent. Whether it was one; else
@@ -82,13 +111,7 @@ fn tick(host: &mut Host, gave_up: bool) -> bool
             let _due = wind(&mut a.common, a.status);
             a.wait = wait;
         }
-        Host::Authenticated(a) => {
-            let left = time_left(&a.common, true);
-            if is_due(&a.common, true, left) {
-                return false;
-            }
-            a.common.left = left;
-        }
+        Host::Authenticated(a) => return a.fall(),
         Host::Held(a) => {
             let wait = a.wait.saturating_sub(1);
             if wait == 0 {

@@ -1,0 +1,55 @@
+-- A second of a host that is let in, in which nothing falls due.
+use Rattle.std.proofs.Common.{◌≡◌, ◌∙◌, ◌-◌, Bool, true, false, List, [], refl, sym, ap, subst}
+use Rattle.std.specs.Prelude.{not, ◌&&◌, ◌||◌}
+use Rattle.machine_vars.specs.declared.vars.Vars.{Vars}
+use Rattle.machine_defs.specs.Live.{Second, cleared as cleared_vars}
+use Rattle.out_tray.specs.Tray.{Things}
+use Rattle.typed_session.specs.declared.host.Admitted.{Admitted}
+use Rattle.typed_session.specs.declared.host.Host.{Host}
+use Rattle.typed_session.specs.declared.host.Host.TheVariants as host
+use Rattle.typed_session.specs.Stands.{Stands}
+use Rattle.typed_session.specs.Seconds.{Ticks, after_second, is_due, is_idle, move, time_left, wound}
+use Rattle.typed_session.specs.Reads.{abort_of, ask_of, cleared, is_ended, status_of}
+use Rattle.typed_session.specs.Follows.{Idles, IsLetIn, frames_by, with_sent}
+use Rattle.typed_session.proofs.Lands.{follows, unsaid}
+use Rattle.typed_session.proofs.Shapes.{same_abort, same_ask, same_gone, same_status, stands_cleared}
+
+-- a host that is let in, with nothing left to be done
+let_in : (h : Host) → status_of h ≡ true → ask_of h ≡ false → abort_of h ≡ false → is_ended h ≡ false → cleared h ≡ h → (v : Vars) → Stands h v → IsLetIn h v
+let_in h on ask abort ended same = λ v s. record {
+  status = sym (same_status s) ∙ on;
+  ask = sym (same_ask s) ∙ ask;
+  abort = sym (same_abort s) ∙ abort;
+  gone = sym (same_gone s) ∙ ended;
+  cleared = let P : Host → Type 0 = λ y. Stands y (cleared_vars v) in subst P same (stands_cleared s);
+}
+
+admitted : (a : Admitted) → a.common.ask ≡ false → a.common.abort ≡ false → (v : Vars) → Stands (host.Authenticated a) v → IsLetIn (host.Authenticated a) v
+admitted a ask abort = let_in (host.Authenticated a) refl ask abort refl (rw (ask, abort) refl)
+
+-- nothing is left to be done, and nothing falls due
+by_flags : (ask abort due : Bool) → (not (ask || abort) && not due) ≡ true → (ask ≡ false) × (abort ≡ false) × (due ≡ false)
+by_flags false false false e = (refl, refl, refl)
+by_flags false false true e = cc
+by_flags false true due e = cc
+by_flags true abort due e = cc
+
+pub idles : (h k : Host) → is_idle h ≡ true → Ticks false true h k → Idles h k
+idles (host.Authenticated a) k i t =
+    let h : Host = host.Authenticated a in
+    let left = time_left true a.common in
+    let f = by_flags a.common.ask a.common.abort (is_due true a.common left) i in
+    let b : Admitted = record a { common = wound true a.common left } in
+    let same : (after_second false h).host ≡ host.Authenticated b = rw f.2 refl in
+    let P : Host → Type 0 = λ y. (v : Vars) → Stands y v → IsLetIn y v in
+    record {
+      follows = λ tray v s. follows (Second false) h k tray tray t.0 (unsaid h (move (Second false) h).packets tray t.1) v tt refl s;
+      before = admitted a f.0 f.1;
+      after = subst P (sym (t.0 ∙ same)) (admitted b f.0 f.1);
+    }
+idles (host.Request a) k i t = cc
+idles (host.Ignore a) k i t = cc
+idles (host.Server a) k i t = cc
+idles (host.GaveUp a) k i t = cc
+idles (host.Held a) k i t = cc
+idles (host.Ended a) k i t = cc
