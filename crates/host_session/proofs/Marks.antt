@@ -1,5 +1,5 @@
 -- What a host shows of the variables that it stands for, and the marks that are set by them.
-use Rattle.std.proofs.Common.{◌≡◌, ◌∙◌, Bool, true, false, not, ◌&&◌, ◌||◌, List, Option, refl, sym, ap, subst}
+use Rattle.std.proofs.Common.{◌≡◌, ◌∙◌, Bool, true, false, ◌||◌, refl, sym, ap}
 use Rattle.machine_vars.specs.declared.vars.Vars.{Vars}
 use Rattle.machine_vars.specs.declared.states.Pae.{Pae}
 use Rattle.machine_vars.specs.declared.states.Pae.TheVariants.{Held}
@@ -11,7 +11,7 @@ use Rattle.typed_session.specs.declared.host.Served.{Served}
 use Rattle.typed_session.specs.declared.host.Host.{Host}
 use Rattle.typed_session.specs.declared.host.Host.TheVariants as host
 use Rattle.typed_session.specs.Stands.{Stands}
-use Rattle.typed_session.specs.Reads.{IsHeld, is_server}
+use Rattle.typed_session.specs.Reads.{IsHeld}
 use Rattle.typed_session.proofs.Lands.{host_settled}
 use Rattle.typed_session.proofs.Shapes.{Shape, shape, in_request, in_ignore, in_server, in_gave_up, in_authenticated, in_held, in_ended}
 use Rattle.switch_defs.specs.Session.{AnAnswer, Another, is_held, mark}

@@ -1,16 +1,20 @@
 -- What a call on a session does: it settles, and what is wanted of the server's side is told.
-use Rattle.std.specs.Prelude.{◌≡◌, ℕ, false, List, None, if◌then◌else◌}
+use Rattle.std.specs.Prelude.{◌≡◌, ℕ, ◌-◌, ◌==◌, Bool, true, false, not, ◌&&◌, List, None}
 use Rattle.machine_vars.specs.declared.control.Control.TheVariants.{Auto}
 use Rattle.machine_vars.specs.declared.control.Times.{Times}
+use Rattle.machine_vars.specs.declared.states.EapState.TheVariants.{Success2}
 use Rattle.machine_vars.specs.declared.vars.Vars.{Vars}
 use Rattle.machine_vars.specs.declared.wants.Wants.{Wants}
+use Rattle.machine_defs.specs.Live as live
 use Rattle.machine_defs.specs.Live.{fresh}
 use Rattle.settle_defs.specs.Settle.{settled}
 use Rattle.switch_event.specs.Frames.{frames}
 use Rattle.out_tray.specs.Tray.{Things}
+use Rattle.typed_session.specs.Seconds as host
 use Rattle.typed_session.specs.Follows.{with_sent}
 use Rattle.switch_defs.specs.Switch.{Standing}
 use Rattle.switch_defs.specs.Session.{Cause, Another, rested}
+use Rattle.switch_defs.specs.Turn.{set_vars}
 use Rattle.host_session.specs.declared.session.Session.{Session}
 use Rattle.host_session.specs.Sits.{SitsAs}
 
@@ -45,14 +49,17 @@ nothing = record { ask = false; abort = false; gone = false }
 abbrev pub is_idle : Session → Bool
 is_idle k = not (k.end_while == 1) && host.is_idle k.host
 
--- such a second, in which the server is not given up: the session settles, and nothing is sent or
--- wanted; its host was Authorized, and is
-pub record Idles (k l : Session) (x : Standing) : Type 0 where
-  pub settles : (tray : Things) →
-      Settles Another (set_vars (live.Second false) (record x { end_while = x.end_while - 1 })) l nothing
-      tray tray
+-- how a session stands once a second has gone by, in which the server is not given up
+abbrev pub later : Standing → Standing
+later x = set_vars (live.Second false) (record x { end_while = x.end_while - 1 })
+
+-- it settled so, and nothing was sent or is wanted; its host was Authorized (RFC 4137, 7: SUCCESS2),
+-- and is
+pub record SettlesIdly (x : Standing) (k : Session) : Type 0 where
+  pub settles : (tray : Things) → Settles Another (later x) k nothing tray tray
+  pub state : x.vars.eap ≡ Success2
   pub before : x.vars.auth_port_status ≡ true
-  pub after : (settled (set (live.Second false) x.vars)).vars.auth_port_status ≡ true
+  pub after : (settled (later x).vars).vars.auth_port_status ≡ true
 
 -- how the session of a host begins, on a port with this address and this native VLAN
 abbrev pub beginning : (port : ℕ) → (own peer : List ℕ) → (native : ℕ) → Times → Standing

@@ -1,5 +1,5 @@
 -- What is kept of a session, and the standings of the definitions that it is kept of.
-use Rattle.std.specs.Prelude.{◌≡◌, ℕ, List, Option, None, Some}
+use Rattle.std.specs.Prelude.{◌≡◌, ℕ, List, Option}
 use Rattle.std.specs.Option.{option_map}
 use Rattle.arrayvec.specs.ArrayVec.{ArrayVec}
 use Rattle.typed_session.specs.Stands.{Stands}

@@ -1,6 +1,6 @@
 //! What comes to a session: what its host says, an answer of the server, a second.
 
-ghost use Rattle.std.specs.Prelude.{◌≡◌, ◌≤◌, ◌+◌, ◌-◌, ◌||◌, length, IfSome};
+ghost use Rattle.std.specs.Prelude.{◌≡◌, ◌≤◌, ◌+◌, ◌-◌, ◌||◌, true, false, length, IfSome};
 ghost use Rattle.machine_defs.specs.Live as live;
 ghost use Rattle.machine_defs.specs.Live.{Packet};
 ghost use Rattle.out_tray.specs.Tray.{spare};
@@ -14,7 +14,7 @@ ghost use Rattle.switch_defs.specs.Session.{AnAnswer, ALogoff, Another};
 ghost use Rattle.switch_defs.specs.Answer.{kept_of, stands};
 ghost use Rattle.switch_defs.specs.Turn.{cause_of, set_vars};
 ghost use Rattle.host_session.specs.Sits.{SitsAs, state_in};
-ghost use Rattle.host_session.specs.Settles.{Settles};
+ghost use Rattle.host_session.specs.Settles.{Settles, SettlesIdly, is_idle};
 
 use crate::session::Session;
 use arrayvec::ArrayVec;
@@ -124,6 +124,25 @@ impl Session {
         self.host.on_second(gave_up, tray);
         self.end_while = self.end_while.saturating_sub(1);
         self.rest()
+    }
+
+    /// A second goes by for a session whose host is let in, where nothing falls due: neither its host's
+    /// new authentication nor its end, and nothing is left to be done for the server's side. Its timers
+    /// fall in place, and nothing is sent. The answer says whether it was such a second; else nothing is
+    /// done, and `second` does it.
+    pub fn idle(&mut self) -> bool
+        ensures idle { result ≡ is_idle self.old }
+        ensures idles { result ≡ true → (x : Standing) → SitsAs self.old x →
+            SettlesIdly x self.new }
+        ensures stays { result ≡ false → self.new ≡ self.old }
+        ensures number { self.new.number ≡ self.old.number }
+    {
+        if self.end_while == 1 || !self.host.idle() {
+            return false;
+        }
+        self.end_while = self.end_while.saturating_sub(1);
+        self.restricted = false;
+        true
     }
 }
 

@@ -1,7 +1,7 @@
 -- The request that the code makes is the one of the definitions.
-use Rattle.std.proofs.Common.{◌≡◌, ℕ, ◌∙◌, refl, sym, ap, subst, List, Option, Some, None}
+use Rattle.std.proofs.Common.{◌≡◌, ℕ, refl, List, Option}
 use Rattle.aaa_defs.specs.Request as request
-use Rattle.aaa_defs.specs.Waits.{Waits, Pending, next_name, with_request}
+use Rattle.aaa_defs.specs.Waits.{Waits, next_name, with_request}
 use Rattle.aaa_defs.specs.Asking.{new_request as made}
 use Rattle.switch_event.specs.Config.{Config}
 

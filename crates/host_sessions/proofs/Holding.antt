@@ -1,12 +1,9 @@
 -- What is kept stays that of a state, as both are changed alike.
-use Rattle.std.proofs.Common.{◌≡◌, ℕ, refl, sym, ap, subst, ◌∙◌, List, [], ◌∷◌, ◌++◌, map, filter, Option, Some, None, Bool, true, false, cond, not, arith}
-use Rattle.std.specs.Prelude.{◌==◌, find}
+use Rattle.std.proofs.Common.{◌≡◌, ℕ, refl, sym, ap, subst, ◌∙◌, List, [], ◌∷◌, map, filter, Option, Some, None, Bool, true, false, cond, not, arith}
 use Rattle.std.specs.Option.{option_map}
 use Rattle.std.specs.List.{AllByRecursion, IsDistinct}
-use Rattle.std.specs.Str.{bytes_eq}
 use Rattle.std.proofs.lemmas.Bool.{eqb-true}
 use Rattle.std.proofs.lemmas.Option.{same_Some}
-use Rattle.machine_vars.specs.declared.control.Times.{Times}
 use Rattle.session_table.specs.Slots.{Entry, IsTable, held_at, is_at as is_in, is_for, is_other as is_elsewhere, renewed, value_at, with_value}
 use Rattle.session_table.proofs.Tables.{each_at_place, held_renewed, left_of_host, table_renewed, told_apart}
 use Rattle.aaa_defs.specs.Waits.{Waits, forgotten}
@@ -14,12 +11,12 @@ use Rattle.switch_event.specs.Config.{Config}
 use Rattle.switch_defs.specs.Switch as switch
 use Rattle.switch_defs.specs.Switch.{Host, Standing, State, is_at, opening}
 use Rattle.switch_defs.specs.Session.{stands_as, is_other, place, forget, close}
-use Rattle.switch_defs.specs.Sound.{In, here, there}
+use Rattle.switch_defs.specs.Sound.{In}
 use Rattle.switch_defs.proofs.Lists.{each_in, of_each, in_map, key_same}
 use Rattle.host_session.specs.declared.session.Session.{Session}
 use Rattle.host_session.specs.Sits.{SitsAs}
 use Rattle.host_sessions.specs.declared.sessions.Sessions.{Sessions}
-use Rattle.host_sessions.specs.Holds.{AreOf, Holds, IsOf}
+use Rattle.host_sessions.specs.Holds.{AreOf, Holds}
 use Rattle.host_sessions.specs.Finds.{FindsAt, IsAt}
 use Rattle.host_sessions.proofs.Pairs.{Both, Renews, both_kept, other_agree, renewed_is}
 
@@ -150,6 +147,27 @@ placed_at k s at y w x i same sits timed = record {
     mine_too : (b : Bool) → is_at y.host.port y.host.address y.host ≡ true →
         stands_as y.host x y ≡ record y { standing = x }
     mine_too b j = rw j refl
+
+-- ---- the same value
+
+map_same : (f : Entry Session → Entry Session) (es : List (Entry Session)) →
+    AllByRecursion (λ e. f e ≡ e) es → map f es ≡ es
+map_same f [] a = refl
+map_same f (e ∷ es) a = rw a.0 (ap (λ (fs : List (Entry Session)). e ∷ fs) (map_same f es a.1))
+
+pub renewed_same : (at : ℕ) (v : Session) (es : List (Entry Session)) → IsTable es →
+    Some v ≡ value_at at es → renewed at v es ≡ es
+renewed_same at v es table found =
+    map_same (with_value at v) es (each_in (λ e. with_value at v e ≡ e) es (λ e i. by e i (is_in at e) refl))
+  where
+    by : (e : Entry Session) → In e es → (b : Bool) → is_in at e ≡ b → with_value at v e ≡ e
+    by e i false j = rw j refl
+    by e i true j =
+        let held : held_at at es ≡ Some e = ap (λ q. held_at q es) (sym (eqb-true e.place at j))
+            ∙ of_each (λ f. held_at f.place es ≡ Some f) (each_at_place es table) i in
+        let same : v ≡ e.value =
+            same_Some v e.value (found ∙ ap (option_map (λ (f : Entry Session). f.value)) held) in
+        rw j (ap (λ (w : Session). record e { value = w }) same)
 
 -- ---- a request that is forgotten
 

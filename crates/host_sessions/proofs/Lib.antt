@@ -7,3 +7,4 @@ pub mod Asking
 pub mod Turning
 pub mod Passing
 pub mod Beginning
+pub mod Quiet

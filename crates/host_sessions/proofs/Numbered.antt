@@ -1,5 +1,5 @@
 -- The session with a number, by its place in the order.
-use Rattle.std.proofs.Common.{◌≡◌, ℕ, zero, suc, ◌<◌, refl, sym, ap, subst, ◌∙◌, List, [], ◌∷◌, length, map, Option, Some, None, Bool, true, false, cond, arith}
+use Rattle.std.proofs.Common.{◌≡◌, ℕ, zero, suc, ◌<◌, refl, sym, ap, ◌∙◌, List, [], ◌∷◌, length, Option, Some, None, Bool, true, false, cond, arith}
 use Rattle.std.specs.Prelude.{◌==◌, find, slice_get}
 use Rattle.std.specs.Option.{option_map}
 use Rattle.std.proofs.lemmas.Option.{same_Some, slice_get-map}

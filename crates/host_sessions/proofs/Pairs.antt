@@ -1,8 +1,7 @@
 -- Entries and the sessions that they are of, one for one.
-use Rattle.std.proofs.Common.{◌≡◌, ℕ, zero, suc, refl, sym, ap, subst, ◌∙◌, List, [], ◌∷◌, ◌++◌, length, map, filter, Option, Some, None, Bool, true, false, cond, not}
-use Rattle.std.specs.Prelude.{◌==◌, ◌&&◌, find, slice_get}
+use Rattle.std.proofs.Common.{◌≡◌, ℕ, zero, suc, refl, sym, ap, ◌∙◌, List, [], ◌∷◌, ◌++◌, length, map, filter, Option, Some, None, Bool, true, false, cond, not}
+use Rattle.std.specs.Prelude.{◌==◌, find, slice_get}
 use Rattle.std.specs.List.{AllByRecursion}
-use Rattle.std.specs.Str.{bytes_eq}
 use Rattle.machine_vars.specs.declared.control.Times.{Times}
 use Rattle.session_table.specs.Slots.{Entry, is_at as is_in, is_for, is_on, renewed, with_value}
 use Rattle.switch_defs.specs.Switch as switch

@@ -1,8 +1,6 @@
 -- A second of a session, before it settles: its request is aged.
-use Rattle.std.proofs.Common.{◌≡◌, ℕ, ◌∙◌, refl, sym, ap, subst, Option, Some, true, Bool}
-use Rattle.std.specs.Prelude.{is_some}
-use Rattle.machine_vars.specs.declared.states.EapState.TheVariants.{AaaIdle}
-use Rattle.aaa_defs.specs.Waits.{Pending, Waits, pending_of}
+use Rattle.std.proofs.Common.{◌≡◌, ℕ, ◌∙◌, refl, sym, ap, subst}
+use Rattle.aaa_defs.specs.Waits.{Waits, pending_of}
 use Rattle.aaa_defs.specs.Age.{aged, after_second}
 use Rattle.switch_event.specs.Config.{Config}
 use Rattle.switch_defs.specs.Switch as switch

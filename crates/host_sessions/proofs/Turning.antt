@@ -1,30 +1,27 @@
 -- A session that was settled: what follows from it, and that this is what the switch does.
-use Rattle.std.proofs.Common.{◌≡◌, ℕ, ◌<◌, ◌∙◌, refl, sym, ap, subst, append_assoc, List, [], ◌∷◌, ◌++◌, Option, Some, None, Bool, true, false, length}
+use Rattle.std.proofs.Common.{◌≡◌, ℕ, ◌∙◌, refl, sym, ap, subst, append_assoc, List, ◌++◌, Some, Bool, true, false}
 use Rattle.machine_vars.specs.declared.vars.Vars.{Vars}
 use Rattle.machine_vars.specs.declared.wants.Wants.{Wants}
 use Rattle.machine_defs.specs.Words.{wants_of}
 use Rattle.settle_defs.specs.Settle.{settled}
 use Rattle.settle_defs.proofs.SettleLaws.{keeps_its_peer}
-use Rattle.aaa_defs.specs.declared.TheConstants.{MOST_WAITING}
-use Rattle.aaa_defs.specs.Waits.{pending_of}
 use Rattle.switch_event.specs.Config.{Config}
 use Rattle.switch_event.specs.Sent.{Sent}
 use Rattle.switch_event.specs.Frames.{frames}
 use Rattle.out_tray.specs.Tray.{Things}
 use Rattle.typed_session.specs.Follows.{with_sent}
-use Rattle.session_table.specs.Slots.{Entry, value_at, renewed}
+use Rattle.session_table.specs.Slots.{value_at, renewed}
 use Rattle.switch_defs.specs.Switch as switch
 use Rattle.switch_defs.specs.Switch.{Host, Standing, State, Did}
-use Rattle.switch_defs.specs.Session.{Cause, ask_if, close_if, forget_if, place, rested, settle_session}
+use Rattle.switch_defs.specs.Session.{Cause, ask_if, forget_if, place, rested, settle_session}
 use Rattle.switch_defs.specs.Laws.{MayAsk}
 use Rattle.switch_defs.proofs.Soundness.{asks_once}
 use Rattle.host_session.specs.declared.session.Session.{Session}
 use Rattle.host_session.specs.Settles.{IsWanted, Settles}
 use Rattle.host_sessions.specs.declared.sessions.Sessions.{Sessions}
-use Rattle.host_sessions.specs.Holds.{Holds}
 use Rattle.host_sessions.specs.Finds.{IsAt}
 use Rattle.host_sessions.specs.Does.{Does, MayTurn}
-use Rattle.host_sessions.specs.Follows.{HasAt, IsToAsk, MayFollow, followed}
+use Rattle.host_sessions.specs.Follows.{IsToAsk, MayFollow, followed}
 use Rattle.host_sessions.proofs.Holding.{placed, placed_at, value_is}
 
 -- ---- the place of a session, as its request is forgotten or made

@@ -1,12 +1,11 @@
 -- The requests that wait: one that is sent again, and a second of a session that has none.
-use Rattle.std.proofs.Common.{◌≡◌, ℕ, ◌<◌, ◌∙◌, refl, sym, ap, subst, List, [], ◌∷◌, map, Option, Some, None, Bool, true, false, cond, arith}
+use Rattle.std.proofs.Common.{◌≡◌, ℕ, ◌<◌, ◌∙◌, refl, ap, List, [], ◌∷◌, map, Option, Some, None, Bool, true, false, cond, arith}
 use Rattle.std.specs.Prelude.{◌==◌, find, is_some}
 use Rattle.machine_vars.specs.declared.states.EapState.{EapState}
 use Rattle.machine_vars.specs.declared.states.EapState.TheVariants.{AaaIdle}
-use Rattle.aaa_defs.specs.declared.Aged.{Aged}
-use Rattle.aaa_defs.specs.declared.Aged.TheVariants.{Quiet, Resend, GaveUp}
+use Rattle.aaa_defs.specs.declared.Aged.TheVariants.{Resend}
 use Rattle.aaa_defs.specs.Waits.{Pending, Waits, name_of, pending_of, socket_of}
-use Rattle.aaa_defs.specs.Age.{aged, aged_request, after_second, older, with_older}
+use Rattle.aaa_defs.specs.Age.{aged, aged_request, after_second, older}
 use Rattle.switch_defs.specs.Turn.{sent_again}
 use Rattle.host_session.specs.Shows.{is_aaa_idle}
 use Rattle.host_sessions.specs.Follows.{sent_of_pending}

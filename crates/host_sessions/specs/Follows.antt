@@ -1,5 +1,5 @@
 -- What follows from a settling, for a session's request and for the session itself (RFC 4137, 7.1).
-use Rattle.std.specs.Prelude.{◌≡◌, ◌<◌, ℕ, Bool, true, List, [], ◌∷◌, length, Option, None, Some, is_some}
+use Rattle.std.specs.Prelude.{◌≡◌, ◌<◌, ℕ, true, List, [], ◌∷◌, length, Option, None, Some, is_some}
 use Rattle.machine_vars.specs.declared.wants.Wants.{Wants}
 use Rattle.machine_vars.specs.declared.states.EapState.TheVariants.{AaaIdle}
 use Rattle.settle_defs.specs.Named.{IsName}

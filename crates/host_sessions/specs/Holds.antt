@@ -1,6 +1,6 @@
 -- The sessions that are kept, and the states of the switch that they are those of. Nothing is said of
 -- ports, of the clock, or of replies.
-use Rattle.std.specs.Prelude.{◌≡◌, ℕ, List, [], ◌∷◌}
+use Rattle.std.specs.Prelude.{◌≡◌, List, [], ◌∷◌}
 use Rattle.machine_vars.specs.declared.control.Times.{Times}
 use Rattle.session_table.specs.Slots.{Entry, IsTable}
 use Rattle.switch_defs.specs.Switch as switch

@@ -7,6 +7,7 @@ mod closing;
 mod events;
 mod finding;
 mod following;
+mod idling;
 mod opening;
 mod seconds;
 mod sessions;

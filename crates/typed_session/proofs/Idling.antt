@@ -1,31 +1,41 @@
 -- A second of a host that is let in, in which nothing falls due.
-use Rattle.std.proofs.Common.{◌≡◌, ◌∙◌, ◌-◌, Bool, true, false, List, [], refl, sym, ap, subst}
+use Rattle.std.proofs.Common.{◌≡◌, ◌∙◌, Bool, true, false, refl, sym, subst}
 use Rattle.std.specs.Prelude.{not, ◌&&◌, ◌||◌}
 use Rattle.machine_vars.specs.declared.vars.Vars.{Vars}
+use Rattle.machine_vars.specs.declared.states.EapState.TheVariants.{Success2}
 use Rattle.machine_defs.specs.Live.{Second, cleared as cleared_vars}
-use Rattle.out_tray.specs.Tray.{Things}
 use Rattle.typed_session.specs.declared.host.Admitted.{Admitted}
 use Rattle.typed_session.specs.declared.host.Host.{Host}
 use Rattle.typed_session.specs.declared.host.Host.TheVariants as host
 use Rattle.typed_session.specs.Stands.{Stands}
 use Rattle.typed_session.specs.Seconds.{Ticks, after_second, is_due, is_idle, move, time_left, wound}
 use Rattle.typed_session.specs.Reads.{abort_of, ask_of, cleared, is_ended, status_of}
-use Rattle.typed_session.specs.Follows.{Idles, IsLetIn, frames_by, with_sent}
+use Rattle.typed_session.specs.Follows.{Idles, IsLetIn}
 use Rattle.typed_session.proofs.Lands.{follows, unsaid}
-use Rattle.typed_session.proofs.Shapes.{same_abort, same_ask, same_gone, same_status, stands_cleared}
+use Rattle.typed_session.proofs.Shapes.{Shape, in_authenticated, in_ended, in_gave_up, in_held, in_ignore, in_request, in_server, shape, same_abort, same_ask, same_gone, same_status, stands_cleared}
 
 -- a host that is let in, with nothing left to be done
-let_in : (h : Host) → status_of h ≡ true → ask_of h ≡ false → abort_of h ≡ false → is_ended h ≡ false → cleared h ≡ h → (v : Vars) → Stands h v → IsLetIn h v
-let_in h on ask abort ended same = λ v s. record {
-  status = sym (same_status s) ∙ on;
-  ask = sym (same_ask s) ∙ ask;
-  abort = sym (same_abort s) ∙ abort;
-  gone = sym (same_gone s) ∙ ended;
-  cleared = let P : Host → Type 0 = λ y. Stands y (cleared_vars v) in subst P same (stands_cleared s);
-}
+success : (a : Admitted) (v : Vars) → Shape (host.Authenticated a) v → v.eap ≡ Success2
+success a v (in_authenticated e g p q t) = q
+success a v (in_request e g p q) = cc
+success a v (in_ignore e g p q) = cc
+success a v (in_server e g p q) = cc
+success a v (in_gave_up e g p q) = cc
+success a v (in_held e g p q t) = cc
+success a v (in_ended e g p t) = cc
 
 admitted : (a : Admitted) → a.common.ask ≡ false → a.common.abort ≡ false → (v : Vars) → Stands (host.Authenticated a) v → IsLetIn (host.Authenticated a) v
-admitted a ask abort = let_in (host.Authenticated a) refl ask abort refl (rw (ask, abort) refl)
+admitted a ask abort = λ v s.
+    let same : cleared (host.Authenticated a) ≡ host.Authenticated a = rw (ask, abort) refl in
+    let P : Host → Type 0 = λ y. Stands y (cleared_vars v) in
+    record {
+      status = sym (same_status s);
+      state = success a v (shape s);
+      ask = sym (same_ask s) ∙ ask;
+      abort = sym (same_abort s) ∙ abort;
+      gone = sym (same_gone s);
+      cleared = subst P same (stands_cleared s);
+    }
 
 -- nothing is left to be done, and nothing falls due
 by_flags : (ask abort due : Bool) → (not (ask || abort) && not due) ≡ true → (ask ≡ false) × (abort ≡ false) × (due ≡ false)

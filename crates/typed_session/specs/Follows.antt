@@ -5,6 +5,7 @@ use Rattle.switch_event.specs.Sent.{Sent, ToHost}
 use Rattle.switch_event.specs.Frames.{eap_frame, frames}
 use Rattle.out_tray.specs.Tray.{Things}
 use Rattle.machine_vars.specs.declared.vars.Vars.{Vars}
+use Rattle.machine_vars.specs.declared.states.EapState.TheVariants.{Success2}
 use Rattle.machine_vars.specs.declared.verdict.Verdict.{Verdict}
 use Rattle.machine_defs.specs.Words.{event_of, wanted, period}
 use Rattle.machine_defs.specs.Live.{Event, set, Change, Second, cleared}
@@ -39,9 +40,11 @@ SetsTimes again h k =
     (v : Vars) → Stands h v →
     Stands k (set (Change (wanted again v.times) (period again v.times)) v)
 
--- the host is Authorized, goes on, and nothing is left to be done for the server's side
+-- the host is Authorized, goes on (RFC 4137, 7: SUCCESS2), and nothing is left to be done for the
+-- server's side
 pub record IsLetIn (h : Host) (v : Vars) : Type 0 where
   pub status : v.auth_port_status ≡ true
+  pub state : v.eap ≡ Success2
   pub ask : v.aaa_eap_resp ≡ false
   pub abort : v.aaa_abort ≡ false
   pub gone : v.gone ≡ false

@@ -1,4 +1,4 @@
-use Rattle.std.proofs.Common.{◌≡◌, ◌∙◌, sym}
+use Rattle.std.proofs.Common.{◌∙◌, sym}
 use Rattle.aaa_defs.specs.Waits.{pending_of}
 use Rattle.host_sessions.proofs.Waiting.{none_waits, unaged}
 use Rattle.host_sessions.proofs.seconds.age.Goals as goal

@@ -1,4 +1,4 @@
-use Rattle.std.proofs.Common.{◌≡◌, ℕ, ◌∙◌, List, Option, sym, ap}
+use Rattle.std.proofs.Common.{◌≡◌, ◌∙◌, List, Option, sym, ap}
 use Rattle.aaa_defs.specs.declared.Aged.TheVariants.{Resend}
 use Rattle.aaa_defs.specs.Waits.{Pending, Waits, pending_of}
 use Rattle.aaa_defs.specs.Age.{aged}

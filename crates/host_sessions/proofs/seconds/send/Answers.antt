@@ -1,6 +1,6 @@
 use Rattle.std.proofs.Common.{◌≡◌, ℕ, ◌∙◌, List, [], ◌∷◌, Option, sym, ap, arith}
 use Rattle.aaa_defs.specs.Waits.{Pending, socket_of}
-use Rattle.switch_event.specs.Sent.{Sent, ToServer}
+use Rattle.switch_event.specs.Sent.{ToServer}
 use Rattle.typed_session.specs.Follows.{with_sent}
 use Rattle.host_sessions.specs.Follows.{sent_of_pending}
 use Rattle.host_sessions.proofs.Waiting.{socket_is}

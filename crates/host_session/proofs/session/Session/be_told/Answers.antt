@@ -1,4 +1,4 @@
-use Rattle.std.proofs.Common.{◌≡◌, ℕ, Bool, ◌∙◌, ap, sym, subst}
+use Rattle.std.proofs.Common.{ℕ, ◌∙◌, ap, sym, subst}
 use Rattle.machine_defs.specs.Live as live
 use Rattle.machine_defs.specs.Live.{set}
 use Rattle.settle_defs.specs.Settle.{settled}

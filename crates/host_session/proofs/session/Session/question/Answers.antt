@@ -1,4 +1,4 @@
-use Rattle.std.proofs.Common.{◌≡◌, ℕ, List, Option, ◌∙◌, refl, ap, sym, subst}
+use Rattle.std.proofs.Common.{◌≡◌, ℕ, List, Option, ◌∙◌, refl}
 use Rattle.aaa_defs.specs.Request as request
 use Rattle.host_session.proofs.Marks.{idle_goes_on}
 use Rattle.host_session.proofs.session.Session.question.Goals as goal

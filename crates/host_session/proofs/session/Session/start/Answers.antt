@@ -1,5 +1,4 @@
 use Rattle.machine_defs.specs.Live as live
-use Rattle.switch_defs.specs.Switch.{Standing}
 use Rattle.switch_defs.specs.Turn.{set_vars}
 use Rattle.host_session.specs.Settles.{at_rest}
 use Rattle.host_session.proofs.session.Session.start.Goals as goal

@@ -2,7 +2,7 @@ use Rattle.std.proofs.Common.{◌≡◌, ℕ, ◌+◌, ◌∙◌, List, Option, 
 use Rattle.std.specs.Option.{option_map}
 use Rattle.std.proofs.lemmas.Option.{same_Some}
 use Rattle.wire_core.specs.declared.address.Mac.{Mac}
-use Rattle.session_table.specs.Slots.{key_at, key_of, value_at}
+use Rattle.session_table.specs.Slots.{key_of, value_at}
 use Rattle.aaa_defs.specs.Request.{authenticator}
 use Rattle.aaa_defs.specs.Waits.{Pending, Waits, pending_of}
 use Rattle.aaa_defs.proofs.Waiting.{asked-found}

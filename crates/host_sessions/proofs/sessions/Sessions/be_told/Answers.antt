@@ -1,11 +1,9 @@
-use Rattle.std.proofs.Common.{◌≡◌, Some, ◌∙◌, ap, sym, subst}
+use Rattle.std.proofs.Common.{◌≡◌, Some, sym, subst}
 use Rattle.machine_vars.specs.declared.control.Times.{Times}
 use Rattle.session_table.specs.Slots.{value_at}
 use Rattle.settle_defs.specs.Settle.{settled}
-use Rattle.aaa_defs.specs.Said as word
 use Rattle.server_words.specs.Words.{Means}
-use Rattle.switch_defs.specs.Switch as switch
-use Rattle.switch_defs.specs.Switch.{Standing, State}
+use Rattle.switch_defs.specs.Switch.{Standing}
 use Rattle.switch_defs.specs.Session.{AnAnswer, place, rested}
 use Rattle.switch_defs.specs.Answer.{event_of, kept_of, stands}
 use Rattle.host_sessions.proofs.Holding.{value_sits}

@@ -1,4 +1,4 @@
-use Rattle.std.proofs.Common.{◌≡◌, Some, ◌∙◌, ap, sym}
+use Rattle.std.proofs.Common.{◌≡◌, Some, ◌∙◌, ap}
 use Rattle.session_table.specs.Slots.{value_at}
 use Rattle.switch_defs.specs.Dynamic.{times_or, vlan_or}
 use Rattle.host_session.specs.declared.session.Session.{Session}

@@ -1,7 +1,6 @@
 use Rattle.std.proofs.Common.{ℕ, Option, sym, subst}
 use Rattle.std.specs.Prelude.{find}
 use Rattle.session_table.specs.Slots.{is_for}
-use Rattle.switch_defs.specs.Switch as switch
 use Rattle.switch_defs.specs.Switch.{is_at, session_at}
 use Rattle.host_sessions.specs.Finds.{FindsAt}
 use Rattle.host_sessions.proofs.Holding.{finds}

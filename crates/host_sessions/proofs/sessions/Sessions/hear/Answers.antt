@@ -1,4 +1,4 @@
-use Rattle.std.proofs.Common.{◌≡◌, Some, ◌∙◌, ap, sym}
+use Rattle.std.proofs.Common.{◌≡◌, Some}
 use Rattle.session_table.specs.Slots.{value_at}
 use Rattle.switch_defs.specs.Switch.{Standing}
 use Rattle.switch_defs.specs.Session.{place, rested}

@@ -1,7 +1,7 @@
 -- The key of the entry at the place is that of the session's host.
-use Rattle.std.proofs.Common.{◌≡◌, ◌∙◌, ap, Option, Some}
+use Rattle.std.proofs.Common.{◌∙◌, ap, Some}
 use Rattle.std.specs.Option.{option_map}
-use Rattle.session_table.specs.Slots.{Entry, key_of}
+use Rattle.session_table.specs.Slots.{key_of}
 use Rattle.host_session.specs.declared.session.Session.{Session}
 use Rattle.host_sessions.proofs.sessions.Sessions.key.Goals as goal
 

@@ -1,7 +1,5 @@
-use Rattle.std.proofs.Common.{◌≡◌, ℕ, ◌∙◌, None, Bool, false, sym, ap, subst}
-use Rattle.machine_vars.specs.declared.control.Times.{Times}
+use Rattle.std.proofs.Common.{◌≡◌, ℕ, ◌∙◌, None, false, sym, ap, subst}
 use Rattle.settle_defs.specs.Settle.{settled}
-use Rattle.session_table.specs.Slots.{place_for}
 use Rattle.switch_event.specs.Config.{Config}
 use Rattle.switch_defs.specs.Switch.{Host, Standing, session_at}
 use Rattle.switch_defs.specs.Session.{Another, place, rested}

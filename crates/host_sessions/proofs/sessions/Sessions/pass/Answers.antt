@@ -1,4 +1,4 @@
-use Rattle.std.proofs.Common.{◌≡◌, ℕ, ◌-◌, Some, Bool, refl, ◌∙◌, ap, sym, subst, Option, List}
+use Rattle.std.proofs.Common.{◌≡◌, ◌-◌, Some, Bool, refl, ◌∙◌, ap, subst, Option}
 use Rattle.machine_defs.specs.Live as live
 use Rattle.session_table.specs.Slots.{value_at}
 use Rattle.settle_defs.specs.Settle.{settled}

@@ -1,6 +1,5 @@
 use Rattle.std.proofs.Common.{◌≡◌, Some, None, true, false, ◌∙◌, sym, ap}
 use Rattle.std.specs.Option.{option_copied}
-use Rattle.std.specs.Prelude.{◌==◌}
 use Rattle.std.proofs.lemmas.Bool.{eq-eqb, ne_eqb}
 use Rattle.session_table.specs.Slots.{value_at}
 use Rattle.host_sessions.proofs.Numbered.{nth_is, place_if_is}

@@ -1,8 +1,8 @@
-use Rattle.std.proofs.Common.{◌≡◌, ℕ, ◌∙◌, List, map, Option, Some, None, Bool, refl, sym, ap, subst}
+use Rattle.std.proofs.Common.{◌≡◌, ℕ, ◌∙◌, List, Option, Some, None, Bool, refl, sym, ap, subst}
 use Rattle.std.specs.Prelude.{slice_get}
 use Rattle.std.specs.Option.{option_copied, option_map}
 use Rattle.std.proofs.lemmas.Option.{same_Some, slice_get-map}
-use Rattle.session_table.specs.Slots.{Entry, key_at, key_of, value_at}
+use Rattle.session_table.specs.Slots.{Entry, key_of, value_at}
 use Rattle.dynauth_defs.specs.Session.{Row}
 use Rattle.dynauth_server.specs.Roll as roll
 use Rattle.wire_core.specs.declared.address.Mac.{Mac}

@@ -1,5 +1,4 @@
 use Rattle.std.proofs.Common.{◌∙◌, Bool, false, sym, subst}
-use Rattle.typed_session.specs.declared.host.Host.{Host}
 use Rattle.typed_session.specs.Seconds.{Ticks}
 use Rattle.typed_session.proofs.Idling.{idles}
 use Rattle.typed_session.proofs.host.Host.idle.Goals as goal
