@@ -6,7 +6,7 @@ use Rattle.radius_defs.specs.declared.Timeout.{Timeout}
 use Rattle.radius_defs.proofs.InRangeLemmas.{timeout_in_range}
 use Rattle.dynauth_defs.specs.declared.Action.{Action}
 use Rattle.dynauth_defs.specs.declared.Action.TheVariants.{Disconnect, Change}
-use Rattle.dynauth_defs.specs.Judge.{Ack, judged}
+use Rattle.dynauth_defs.specs.Judge.{Ack}
 use Rattle.wire_core.specs.declared.address.Addr.{Addr}
 use Rattle.switch_defs.specs.Switch.{Host, Session, State, session_numbered}
 use Rattle.switch_defs.specs.Dynamic.{act, changed, disconnected, judged_on, row_of}

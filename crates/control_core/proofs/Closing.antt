@@ -1,15 +1,13 @@
 -- The sessions of a port are closed, one after another.
-use Rattle.std.proofs.Common.{◌≡◌, ◌∙◌, ℕ, suc, ◌+◌, ◌-◌, ◌<◌, ◌≤◌, List, length, map, subst, sym, arith}
+use Rattle.std.proofs.Common.{◌≡◌, ℕ, suc, List, length, subst, sym}
 use Rattle.switch_event.specs.declared.config.PortConf.{PortConf}
 use Rattle.switch_defs.specs.Switch.{Session, State, on_port}
-use Rattle.switch_defs.specs.Turn.{close_all, close_port, on_port_of}
-use Rattle.switch_defs.specs.Session.{no_guests}
-use Rattle.switch_defs.specs.Sound.{In, confs}
+use Rattle.switch_defs.specs.Turn.{close_all, on_port_of}
+use Rattle.switch_defs.specs.Sound.{confs}
 use Rattle.switch_defs.proofs.Lists.{of_each}
-use Rattle.table_defs.proofs.Told.{AreRestricted, HasConf, Speaks}
+use Rattle.table_defs.proofs.Told.{AreRestricted, HasConf}
 use Rattle.turn_defs.proofs.Walks.{Closings, ClosingGoes, after_closing, closings_begin, closings_end, closings_step, next_place}
 use Rattle.auth_table.specs.declared.change.Item.{Item}
-use Rattle.auth_table.specs.Meaning.{item_of}
 use Rattle.control_core.specs.declared.state.Core.{Core}
 use Rattle.control_core.specs.Stands.{Holds}
 use Rattle.control_core.specs.Does.{TellsOn}

@@ -1,5 +1,5 @@
 -- What the parts of the core need.
-use Rattle.std.proofs.Common.{◌≡◌, ◌⊎◌, inl, inr, ◌++◌, [], ◌∷◌, ℕ, Bool, true, false, List, Option, None, Some, length, map, refl, sym, ap, subst, ◌∙◌, not, cond, ◌+◌, ◌<◌, ◌^◌, arith}
+use Rattle.std.proofs.Common.{◌≡◌, [], ◌∷◌, ℕ, Bool, true, false, List, Option, Some, map, refl, sym, ap, subst, ◌∙◌, cond, ◌+◌, ◌<◌, ◌^◌, arith}
 use Rattle.std.specs.Prelude.{find, ◌&&◌, ◌||◌}
 use Rattle.switch_ports.specs.Ports.{lets_guests}
 use Rattle.table_defs.proofs.Told.{IsShut}
@@ -25,8 +25,8 @@ use Rattle.turn_defs.specs.Parts.{Near}
 use Rattle.turn_defs.proofs.Walks.{Next, after_closing}
 use Rattle.control_core.specs.declared.state.Core.{Core}
 use Rattle.control_core.specs.Stands.{Holds, Lags}
-use Rattle.switch_defs.specs.Switch.{Host, Port, Session, State, hosts, is_at, is_port, port_of, session_at}
-use Rattle.switch_defs.specs.Decide.{Right, authorised, restricted_of, right_by, right_of}
+use Rattle.switch_defs.specs.Switch.{Host, Port, Session, State, hosts, is_at, is_port, port_of}
+use Rattle.switch_defs.specs.Decide.{authorised, restricted_of, right_by, right_of}
 use Rattle.switch_defs.specs.Sound.{In, here, there, AreApart, FromHost, start, logoff, packet, IsSound}
 use Rattle.switch_defs.proofs.Lists.{in_map, key_flip, key_same, none_passes}
 

@@ -11,3 +11,4 @@ pub mod Replying
 pub mod Requesting
 pub mod Rolling
 pub mod Shortness
+pub mod Quiet

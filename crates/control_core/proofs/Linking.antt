@@ -1,5 +1,5 @@
 -- Links and controls, as what is kept and what is told.
-use Rattle.std.proofs.Common.{◌≡◌, ◌∙◌, ◌++◌, [], ◌∷◌, ℕ, ◌+◌, ◌≤◌, Bool, true, false, List, Option, Some, cond, length, map, refl, sym, ap, subst}
+use Rattle.std.proofs.Common.{◌≡◌, ◌∙◌, ◌++◌, [], ◌∷◌, ℕ, Bool, true, false, List, Some, cond, map, refl, sym, ap, subst}
 use Rattle.std.specs.Prelude.{find, ◌==◌}
 use mathlib.Core.Bool.{beq}
 use Rattle.std.specs.Cmp.{unsigned_Decides}
@@ -8,19 +8,19 @@ use Rattle.machine_vars.specs.declared.control.Control.{Control}
 use Rattle.out_tray.specs.Tray.{Things}
 use Rattle.switch_event.specs.declared.config.PortConf.{PortConf}
 use Rattle.typed_session.specs.Follows.{with_sent}
-use Rattle.switch_defs.specs.Switch.{Did, Port, State, is_port, only, port_of}
+use Rattle.switch_defs.specs.Switch.{Port, State, is_port, only, port_of}
 use Rattle.switch_defs.specs.Turn.{link_by, port_up, close_port, set_control, set_link, up_by, with_control, with_link}
 use Rattle.switch_defs.specs.Sound.{IsSound, confs}
 use Rattle.switch_defs.proofs.Lists.{each_in, in_found}
 use Rattle.switch_defs.proofs.Keeping.{confs_map}
 use Rattle.table_defs.specs.Table as table
-use Rattle.table_defs.proofs.Told.{AreConfigured, AreRestricted, Closes, HasConf, by_set_control, by_set_link, has_conf, restricted_sound, session_conf}
+use Rattle.table_defs.proofs.Told.{AreConfigured, AreRestricted, HasConf, by_set_control, by_set_link, has_conf, restricted_sound, session_conf}
 use Rattle.auth_table.specs.declared.change.Item.{Item}
 use Rattle.auth_table.specs.declared.change.Item.TheVariants as now
 use Rattle.auth_table.specs.Meaning.{item_of}
 use Rattle.turn_defs.proofs.Parts.{tells_one}
 use Rattle.control_core.specs.declared.state.Core.{Core}
-use Rattle.control_core.specs.Stands.{Holds, MayTurn}
+use Rattle.control_core.specs.Stands.{Holds}
 use Rattle.control_core.specs.Does.{TellsOn}
 use Rattle.control_core.specs.Walked.{MayClose}
 

@@ -19,15 +19,14 @@ use Rattle.wire_core.specs.declared.address.Addr.{Addr}
 use Rattle.out_tray.specs.Tray.{Things}
 use Rattle.switch_event.specs.Config.{Config}
 use Rattle.typed_session.specs.Follows.{with_sent}
-use Rattle.dynauth_defs.specs.Session.{Row}
 use Rattle.dynauth_defs.specs.Judge.{judged}
 use Rattle.switch_defs.specs.Switch.{State}
-use Rattle.switch_defs.specs.Dynamic.{judged_on, keep_for, reply, reply_to, reply_with, row_of, secret_of}
+use Rattle.switch_defs.specs.Dynamic.{judged_on, keep_for, reply, reply_to, reply_with, secret_of}
 use Rattle.switch_defs.specs.Laws.{IsBetween}
 use Rattle.switch_defs.proofs.Moving.{unmoved}
 use Rattle.switch_defs.proofs.Hosts.{stays}
 use Rattle.table_defs.specs.Table.{Item}
-use Rattle.table_defs.proofs.Told.{ToldBy, by_none, by_then}
+use Rattle.table_defs.proofs.Told.{ToldBy, by_none}
 use Rattle.turn_defs.specs.Parts.{TellsOn}
 use Rattle.turn_defs.proofs.Parts.{tells_none}
 use Rattle.control_core.specs.declared.state.Core.{Core}

@@ -1,5 +1,5 @@
 -- What becomes of a dynamic request, by how it is judged.
-use Rattle.std.proofs.Common.{◌≡◌, ℕ, ◌∙◌, refl, sym, ap, subst, List, Option, Some, None, map}
+use Rattle.std.proofs.Common.{◌≡◌, ℕ, ◌∙◌, refl, sym, ap, subst, List, Some, None, map}
 use Rattle.kept_defs.specs.Kept.{Entry}
 use Rattle.switch_event.specs.Config.{Config}
 use Rattle.switch_event.specs.declared.event.Outcome.{Outcome}

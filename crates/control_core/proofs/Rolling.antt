@@ -1,7 +1,7 @@
 -- The rows of the sessions that are kept: they are those of the state, their numbers rise, and the
 -- identities are some.
-use Rattle.std.proofs.Common.{◌≡◌, ℕ, zero, suc, ◌+◌, ◌≤◌, ◌<◌, List, [], ◌∷◌, length, map, true, refl, sym, ap, subst, arith}
-use Rattle.std.specs.Prelude.{◌&&◌, nat_le, slice_index, IsTrue}
+use Rattle.std.proofs.Common.{◌≡◌, ℕ, zero, suc, ◌+◌, ◌≤◌, ◌<◌, List, [], ◌∷◌, length, map, true, refl, sym, subst, arith}
+use Rattle.std.specs.Prelude.{slice_index}
 use Rattle.std.specs.List.{AllByRecursion, list_all}
 use Rattle.std.specs.List.Sorted.{IsStrictlyIncreasing}
 use Rattle.std.proofs.lemmas.Bool.Decides.{nat_tests}
@@ -10,7 +10,6 @@ use Rattle.typed_session.specs.Reads.{identity_of, status_of}
 use Rattle.typed_session.proofs.Shapes.{same_identity, same_status}
 use Rattle.session_table.specs.Slots.{Entry}
 use Rattle.aaa_defs.specs.Waits.{Waits}
-use Rattle.dynauth_defs.specs.Session.{Row}
 use Rattle.dynauth_server.specs.Roll.{IsRoll, is_identity}
 use Rattle.switch_defs.specs.Switch as switch
 use Rattle.switch_defs.specs.Switch.{State}

@@ -1,10 +1,9 @@
 -- The identity of a host has at most 253 octets.
-use Rattle.std.proofs.Common.{◌≡◌, ℕ, ◌≤◌, Bool, true, false, not, refl, subst, sym, List, length, drop, arith, length-drop}
+use Rattle.std.proofs.Common.{◌≡◌, ℕ, ◌≤◌, Bool, true, false, not, refl, List, length, drop, arith, length-drop}
 use Rattle.std.specs.Prelude.{if◌then◌else◌, ◌&&◌, ◌||◌, ◌==◌, nat_lt, nat_le, slice_index}
 use Rattle.std.proofs.lemmas.Bool.Decides.{nat_tests}
 use Rattle.arrayvec.specs.ArrayVec.{ArrayVec}
 use Rattle.machine_vars.specs.declared.vars.Vars.{Vars}
-use Rattle.machine_vars.specs.declared.states.EapState.{EapState}
 use Rattle.machine_vars.specs.declared.states.EapState.TheVariants.{Received2}
 use Rattle.machine_vars.specs.declared.states.Row.{Row}
 use Rattle.machine_defs.specs.Table.{Line}

@@ -1,5 +1,5 @@
 -- The sessions that are kept, as rows that dynamic requests can know.
-use Rattle.std.specs.Prelude.{◌≡◌, ℕ, List, [], ◌∷◌, map, Option, Some, None}
+use Rattle.std.specs.Prelude.{List, map}
 use Rattle.typed_session.specs.Reads.{identity_of, status_of}
 use Rattle.session_table.specs.Slots.{Entry}
 use Rattle.dynauth_defs.specs.Session.{Row}

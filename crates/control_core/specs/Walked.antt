@@ -1,5 +1,5 @@
 -- The session at a place of the order, while a walk over them goes on.
-use Rattle.std.specs.Prelude.{◌≡◌, ℕ}
+use Rattle.std.specs.Prelude.{ℕ}
 use Rattle.switch_defs.specs.Switch.{Session, State}
 use Rattle.switch_defs.specs.Sound.{AreHosts, HasVlan}
 use Rattle.switch_defs.specs.Switch as switch

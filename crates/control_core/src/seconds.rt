@@ -11,7 +11,7 @@ ghost use Rattle.switch_defs.specs.Turn as model;
 ghost use Rattle.turn_defs.proofs.Walks.{Next, is_over};
 ghost use Rattle.control_core.specs.Stands.{Holds, MayTurn};
 ghost use Rattle.control_core.specs.Does.{Does, TellsOn, Turns};
-ghost use Rattle.control_core.specs.Passing.{MayPass};
+ghost use Rattle.control_core.specs.Passing.{MayPass, PassesIdly};
 
 use crate::rights::note;
 use crate::state::Core;
@@ -73,8 +73,39 @@ impl Core {
         }
     }
 
-    // A second for the n-th session; whether it was closed.
+    // A second for the n-th session; whether it was closed. Most seconds bring nothing.
     fn second_of(&mut self, n: usize, tray: &mut Tray, items: &mut ArrayVec<Item, 1024>) -> bool
+        requires may { (y : Session) × (s : State) × Holds self.old s × Next y n s × MayPass 1 s }
+        requires room { 9758 ≤ spare tray.old }
+        requires few { length items.old.items + 1 ≤ 1024 }
+        ensures does { (y : Session) (s : State) → Holds self.old s → Next y n s → MayPass 1 s →
+            Does s (model.second_of y s)
+            self.new tray.old tray.new items.old.items items.new.items }
+        ensures closed { (y : Session) (s : State) → Holds self.old s → Next y n s → MayPass 1 s →
+            result ≡ is_over y s }
+        ensures few { length items.new.items ≤ length items.old.items + 1 }
+        ensures room { spare tray.old ≤ spare tray.new + 9758 }
+        ensures made { self.new.made ≡ self.old.made }
+    {
+        !self.idle(n) && self.pass(n, tray, items)
+    }
+
+    // A second for the n-th session, where nothing falls due in it; whether it was such a second. Else
+    // nothing is done.
+    fn idle(&mut self, n: usize) -> bool
+        ensures idles { result ≡ true → (y : Session) (s : State) → Holds self.old s → Next y n s →
+            MayPass 1 s → PassesIdly y s self.new }
+        ensures stays { result ≡ false → (s : State) → Holds self.old s → self.new ≡ self.old }
+        ensures made { self.new.made ≡ self.old.made }
+    {
+        match self.sessions.place_at(n) {
+            Some(at) => self.sessions.idle(at),
+            None => false,
+        }
+    }
+
+    // A second for the n-th session, whatever falls due in it; whether it was closed.
+    fn pass(&mut self, n: usize, tray: &mut Tray, items: &mut ArrayVec<Item, 1024>) -> bool
         requires may { (y : Session) × (s : State) × Holds self.old s × Next y n s × MayPass 1 s }
         requires room { 9758 ≤ spare tray.old }
         requires few { length items.old.items + 1 ≤ 1024 }

@@ -3,7 +3,7 @@ use Rattle.std.proofs.Common.{◌≡◌, ℕ, not, sym, ap, map, ◌∙◌}
 use Rattle.std.specs.Prelude.{◌==◌}
 use Rattle.std.specs.List.{list_any}
 use Rattle.switch_event.specs.Config.{Config}
-use Rattle.switch_defs.specs.Switch.{State, on_port}
+use Rattle.switch_defs.specs.Switch.{on_port}
 use Rattle.switch_defs.specs.Session.{armed}
 use Rattle.turn_defs.proofs.Parts.{any_or_none}
 use Rattle.control_core.proofs.state.Core.arm.Goals as goal

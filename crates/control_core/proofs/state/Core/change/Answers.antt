@@ -1,5 +1,5 @@
 use Rattle.std.proofs.Common.{false}
-use Rattle.switch_defs.specs.Switch.{Session, Standing, State}
+use Rattle.switch_defs.specs.Switch.{Standing, State}
 use Rattle.switch_defs.specs.Session.{place}
 use Rattle.switch_defs.specs.Dynamic.{times_or, vlan_or}
 use Rattle.switch_defs.specs.Sound.{HasVlan}

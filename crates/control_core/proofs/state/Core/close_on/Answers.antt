@@ -1,15 +1,12 @@
 -- The session at the place is closed, and its port armed.
-use Rattle.std.proofs.Common.{◌≡◌, ◌∙◌, ℕ, true, refl, sym, ap}
-use Rattle.std.specs.Prelude.{◌==◌}
+use Rattle.std.proofs.Common.{◌≡◌, ◌∙◌, true, refl, sym}
 use Rattle.std.specs.Cmp.{unsigned_Decides}
-use Rattle.switch_defs.specs.Switch.{Session, State, on_port}
+use Rattle.switch_defs.specs.Switch.{on_port}
 use Rattle.switch_defs.specs.Session.{close}
 use Rattle.host_sessions.specs.Finds.{IsAt}
-use Rattle.turn_defs.specs.Parts.{TellsOn as Tells}
 use Rattle.turn_defs.proofs.Parts.{beside_close}
 use Rattle.control_core.specs.Stands.{Holds, Lags}
 use Rattle.control_core.specs.Does.{IsOfHost, TellsOn}
-use Rattle.control_core.specs.Walked.{MayEnd}
 use Rattle.control_core.proofs.Lemmas.{at_place, if_on, key_is, lags_by, near_end}
 use Rattle.control_core.proofs.state.Core.close_on.Goals as goal
 

@@ -1,5 +1,5 @@
 -- The walk over the sessions, and then no guests.
-use Rattle.std.proofs.Common.{◌≡◌, ◌∙◌, ℕ, suc, ◌+◌, ◌-◌, ◌<◌, ◌≤◌, Bool, true, false, List, length, subst, sym, arith}
+use Rattle.std.proofs.Common.{◌≡◌, ◌∙◌, ℕ, suc, ◌+◌, ◌-◌, ◌≤◌, Bool, true, false, List, subst, sym, arith}
 use Rattle.switch_event.specs.declared.config.PortConf.{PortConf}
 use Rattle.switch_defs.specs.Switch.{Session, State, on_port}
 use Rattle.switch_defs.specs.Turn.{close_all, on_port_of}
@@ -7,8 +7,7 @@ use Rattle.switch_defs.specs.Sound.{confs}
 use Rattle.switch_defs.proofs.Keeping.{kept_close_all}
 use Rattle.table_defs.proofs.Told.{HasConf}
 use Rattle.turn_defs.proofs.Walks.{next_place}
-use Rattle.control_core.specs.Walked.{MayClose, MayEnd}
-use Rattle.control_core.proofs.Closing.{Closed, closed_end, closed_goes, closed_step, may_end}
+use Rattle.control_core.proofs.Closing.{closed_end, closed_goes, closed_step, may_end}
 use Rattle.control_core.proofs.state.Core.close_port.Goals as goal
 
 next_near : (b : Bool) (n : ℕ) → next_place b n ≤ n + 1

@@ -1,5 +1,5 @@
 use Rattle.std.proofs.Common.{true}
-use Rattle.switch_defs.specs.Switch.{Session, State}
+use Rattle.switch_defs.specs.Switch.{State}
 use Rattle.switch_defs.specs.Session.{close}
 use Rattle.switch_defs.specs.Sound.{IsAtRest}
 use Rattle.switch_defs.proofs.Lists.{of_each}

@@ -1,5 +1,5 @@
 -- A control that is so already; else the port closes, and begins anew where it is up.
-use Rattle.std.proofs.Common.{◌≡◌, ◌∙◌, ℕ, ◌+◌, Bool, true, false, List, Option, Some, length, map, refl, sym, ap, subst, arith, ◌≤◌}
+use Rattle.std.proofs.Common.{◌≡◌, ◌∙◌, ℕ, Bool, true, false, List, Option, Some, length, refl, sym, ap, subst, arith, ◌≤◌}
 use Rattle.std.specs.Prelude.{find}
 use Rattle.machine_vars.specs.declared.control.Control.{Control}
 use Rattle.machine_defs.specs.BackendTable.{is_auto}
@@ -9,15 +9,14 @@ use Rattle.switch_event.specs.Config.{Config}
 use Rattle.switch_event.specs.declared.config.PortConf.{PortConf}
 use Rattle.switch_event.specs.declared.event.Outcome.TheVariants.{Done}
 use Rattle.switch_defs.specs.Switch.{Did, Port, State, is_port, only, port_of, turned, most_sessions}
-use Rattle.switch_defs.specs.Turn.{close_port, control_by, do_control, port_up, set_control, up_by, up_if, with_control}
+use Rattle.switch_defs.specs.Turn.{close_port, control_by, do_control, port_up, set_control, up_if, with_control}
 use Rattle.switch_defs.specs.Sound.{confs}
 use Rattle.switch_defs.proofs.Keeping.{kept_close_port}
 use Rattle.switch_defs.proofs.Soundness.{sessions_are_few}
 use Rattle.table_defs.proofs.Told.{HasConf, has_conf}
 use Rattle.control_core.specs.declared.state.Core.{Core}
-use Rattle.control_core.specs.Stands.{Holds, MayTurn}
-use Rattle.control_core.specs.Does.{TellsOn, Turns}
-use Rattle.control_core.specs.Walked.{MayClose}
+use Rattle.control_core.specs.Stands.{Holds}
+use Rattle.control_core.specs.Does.{Turns}
 use Rattle.control_core.proofs.Linking.{control_told, controlled_holds, mapped, may_close, nothing_sent, number, same_conf, up_conf}
 use Rattle.control_core.proofs.state.Core.do_control.Goals as goal
 

@@ -1,5 +1,5 @@
 -- A link that is so already, one that comes up, and one that goes down.
-use Rattle.std.proofs.Common.{◌≡◌, ◌∙◌, ℕ, Bool, true, false, List, Option, Some, length, map, refl, sym, ap, subst, arith, ◌≤◌}
+use Rattle.std.proofs.Common.{◌≡◌, ◌∙◌, ℕ, Bool, Option, Some, length, refl, sym, ap, subst, arith, ◌≤◌}
 use Rattle.std.specs.Prelude.{find}
 use mathlib.Core.Bool.{beq}
 use Rattle.switch_event.specs.declared.event.Outcome.TheVariants.{Done}
@@ -8,8 +8,8 @@ use Rattle.switch_defs.specs.Turn.{close_port, do_link, port_up, set_link, with_
 use Rattle.switch_defs.proofs.Soundness.{sessions_are_few}
 use Rattle.machine_defs.specs.BackendTable.{is_auto}
 use Rattle.control_core.specs.declared.state.Core.{Core}
-use Rattle.control_core.specs.Stands.{Holds, MayTurn}
-use Rattle.control_core.specs.Does.{TellsOn, Turns}
+use Rattle.control_core.specs.Stands.{Holds}
+use Rattle.control_core.specs.Does.{Turns}
 use Rattle.control_core.specs.Walked.{MayClose}
 use Rattle.control_core.proofs.Linking.{link_comes, link_goes, link_same, link_told, linked_holds, mapped, may_close_down, nothing_sent, number, up_linked}
 use Rattle.control_core.proofs.state.Core.do_link.Goals as goal

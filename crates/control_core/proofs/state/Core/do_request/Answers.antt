@@ -1,13 +1,9 @@
-use Rattle.std.proofs.Common.{◌≡◌, ℕ, ◌≤◌, ◌∙◌, refl, sym, ap, subst, arith, List, [], ◌∷◌, length, None, Some}
+use Rattle.std.proofs.Common.{refl, ap}
 use Rattle.switch_event.specs.declared.event.Outcome.TheVariants.{Acked, Again, Naked, RequestDropped}
-use Rattle.switch_event.specs.Sent.{ToClient}
-use Rattle.typed_session.specs.Follows.{with_sent}
 use Rattle.dynauth_defs.specs.Judge as word
 use Rattle.switch_defs.specs.Switch.{State}
-use Rattle.switch_defs.specs.Dynamic.{act, judged_on}
+use Rattle.switch_defs.specs.Dynamic.{act}
 use Rattle.switch_defs.proofs.Soundness.{sound_is_between}
-use Rattle.control_core.specs.declared.state.Core.{Core}
-use Rattle.control_core.specs.Acts.{MayAct}
 use Rattle.control_core.proofs.Acting.{may_act}
 use Rattle.control_core.proofs.Replying.{nothing_sent}
 use Rattle.control_core.proofs.Requesting.{acked, answered_after, naked, stands_judged, turns_so}

@@ -1,5 +1,5 @@
 -- What has changed of the host's right is told.
-use Rattle.std.proofs.Common.{◌≡◌, ◌∙◌, map, sym}
+use Rattle.std.proofs.Common.{◌∙◌, map, sym}
 use Rattle.host_session.specs.Sits.{right_in}
 use Rattle.switch_defs.specs.Decide.{authorised}
 use Rattle.auth_table.specs.Meaning.{item_of}

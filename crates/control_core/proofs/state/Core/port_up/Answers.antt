@@ -1,18 +1,15 @@
 -- An Auto port is armed and asks; a forced one says what is decided.
-use Rattle.std.proofs.Common.{◌≡◌, ◌∙◌, ◌++◌, [], ◌∷◌, ℕ, Bool, true, false, List, Option, Some, refl, sym, ap, subst, map}
+use Rattle.std.proofs.Common.{◌≡◌, ◌∙◌, ◌++◌, [], ◌∷◌, ℕ, Bool, true, false, List, Some, refl, sym, ap, subst, map}
 use Rattle.std.specs.Cmp.{unsigned_Decides}
 use Rattle.wire_defs.specs.Ethernet.{pae_group}
-use Rattle.wire_defs.specs.Eap.{identity_request}
 use Rattle.machine_vars.specs.declared.control.Control.{Control}
-use Rattle.machine_vars.specs.declared.control.Times.{Times}
 use Rattle.machine_defs.specs.BackendTable.{is_auto}
-use Rattle.machine_defs.specs.Live.{InRange, fresh}
-use Rattle.out_tray.specs.Tray.{Things}
+use Rattle.machine_defs.specs.Live.{fresh}
 use Rattle.switch_event.specs.Config.{Config}
 use Rattle.switch_event.specs.Sent.{ToHost}
 use Rattle.switch_event.specs.Frames.{eap_frame}
 use Rattle.switch_defs.specs.Switch.{Port, State, is_port, port_address, port_of}
-use Rattle.switch_defs.specs.Session.{arm, armed}
+use Rattle.switch_defs.specs.Session.{armed}
 use Rattle.switch_defs.specs.Turn.{up_by}
 use Rattle.switch_defs.specs.Decide.{view}
 use Rattle.switch_defs.proofs.Lists.{in_found}

@@ -1,7 +1,6 @@
 -- The n-th session is the one of its port and address.
-use Rattle.std.proofs.Common.{◌≡◌, ◌∙◌, ℕ, Option, Some, ap, subst, sym}
-use Rattle.std.specs.Prelude.{slice_get}
-use Rattle.switch_defs.specs.Switch.{Session, State, port_of}
+use Rattle.std.proofs.Common.{◌∙◌, ℕ, Option, Some, ap, subst, sym}
+use Rattle.switch_defs.specs.Switch.{Session, port_of}
 use Rattle.switch_defs.specs.Decide.{restricted_of, right_by}
 use Rattle.host_sessions.specs.Finds.{FindsAt, IsAt}
 use Rattle.control_core.proofs.Lemmas.{right_in_place}

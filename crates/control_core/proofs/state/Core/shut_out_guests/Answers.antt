@@ -1,7 +1,6 @@
 -- An item where guests were let in.
-use Rattle.std.proofs.Common.{◌≡◌, ◌∙◌, [], ◌∷◌, ◌++◌, false, List, ap, map, sym}
+use Rattle.std.proofs.Common.{◌≡◌, ◌∙◌, [], ◌∷◌, false, ap, map, sym}
 use Rattle.std.proofs.lemmas.List.{map-append}
-use Rattle.switch_defs.specs.Switch.{Port, State}
 use Rattle.switch_defs.specs.Session.{no_guests}
 use Rattle.table_defs.specs.Table.{Guest}
 use Rattle.table_defs.proofs.Told.{by_no_guests, by_shut}

@@ -1,7 +1,6 @@
-use Rattle.std.proofs.Common.{◌≡◌, ◌≤◌, ◌+◌, ℕ, List, length, map, refl, sym, subst}
+use Rattle.std.proofs.Common.{◌≤◌, ◌+◌, ℕ, List, length, map, refl, sym, subst}
 use Rattle.std.proofs.lemmas.List.{length-map}
 use Rattle.switch_event.specs.Event.{happening}
-use Rattle.switch_defs.specs.Switch.{State}
 use Rattle.switch_defs.specs.Sound.{IsSound}
 use Rattle.switch_defs.specs.Turn as model
 use Rattle.switch_defs.proofs.Soundness.{turns_are_sound}
@@ -9,7 +8,7 @@ use Rattle.switch_defs.proofs.Moving.{unmoved}
 use Rattle.table_defs.proofs.Told.{ToldBy, by_none, tells_by}
 use Rattle.auth_table.specs.declared.change.Item.{Item}
 use Rattle.auth_table.specs.Meaning.{item_of}
-use Rattle.control_core.specs.Stands.{MayTurn, Stands}
+use Rattle.control_core.specs.Stands.{MayTurn}
 use Rattle.control_core.proofs.state.CoreAuthenticator.turn.Goals as goal
 
 pub returns-clause-state : goal.returns-clause-state
