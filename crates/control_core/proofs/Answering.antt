@@ -36,17 +36,6 @@ use Rattle.control_core.specs.Answering as given
 
 -- ---- one session
 
--- a port is still to be armed where its session was closed
-pub lags_by : (closed gone : Bool) (port n : ℕ) (core : Core) (k : Sessions) (s t : State) → core.config ≡ s.config → core.clock ≡ s.clock → core.ports ≡ s.ports → core.kept.items ≡ s.kept →
-    port ≡ n → closed ≡ gone → Beside gone n s t → sessions.Holds k t → Lags closed port (record core { sessions = k }) t
-lags_by closed gone port n core k s t config clock ports kept p c b d = record {
-  config = config ∙ sym b.config;
-  clock = clock ∙ sym b.clock;
-  ports = b.ports ∙ (λ i. armed_if (sym c i) (sym p i) t (sym ports i));
-  sessions = d;
-  kept = kept ∙ sym b.kept;
-}
-
 -- nothing is sent
 pub none_sent : (from : Things) → from ≡ with_sent [] from
 none_sent from = ap (λ (items : List Sent). record from { items = items }) (sym (append-nil from.items))

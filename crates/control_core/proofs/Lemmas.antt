@@ -70,18 +70,15 @@ from_host (said.Packet eap) = packet eap.now
 pub may_known : {turns : ℕ} (s : State) (y : Session) (x : Said) → IsSound turns s → In y s.sessions → MayAsk y.host (set_vars (event_of x) y.standing) s
 may_known {turns} s y x a i = record { hosts = a.hosts; few = sessions_are_few turns s a; settle = may_event y (event_of x) s i (from_host x) a.rests }
 
--- there is another authenticator to be used
-pub asked_fits : (turns : ℕ) (s : State) (asked : ℕ) → IsSound turns s → turns < most_turns → asked ≡ s.asked → asked + 1 < 2 ^ 64
-asked_fits turns s asked a few e = omega (arith, a.asked, few, e)
-
--- after something was done to a session, its port is still to be armed
-pub lags_by : (closed gone : Bool) (n : ℕ) (core : Core) (k : Sessions) (h : Host) (s t : State) → Holds core s → Beside gone h.port s t → closed ≡ gone → h.port ≡ n → sessions.Holds k t → Lags closed n (record core { sessions = k }) t
-lags_by closed gone n core k h s t holds beside c p kept = record {
-  config = holds.config ∙ sym beside.config;
-  clock = holds.clock ∙ sym beside.clock;
-  ports = beside.ports ∙ (λ i. armed_if (sym c i) (p i) t (sym holds.ports i));
-  sessions = kept;
-  kept = holds.kept ∙ sym beside.kept;
+-- after something was done to a session, its port is still to be armed where the session was closed
+pub lags_by : (closed gone : Bool) (port n : ℕ) (core : Core) (k : Sessions) (s t : State) → core.config ≡ s.config → core.clock ≡ s.clock → core.ports ≡ s.ports → core.kept.items ≡ s.kept →
+    port ≡ n → closed ≡ gone → Beside gone n s t → sessions.Holds k t → Lags closed port (record core { sessions = k }) t
+lags_by closed gone port n core k s t config clock ports kept p c b d = record {
+  config = config ∙ sym b.config;
+  clock = clock ∙ sym b.clock;
+  ports = b.ports ∙ (λ i. armed_if (sym c i) (sym p i) t (sym ports i));
+  sessions = d;
+  kept = kept ∙ sym b.kept;
 }
 
 pair_same : {x z : ℕ × Mac} → Some x ≡ Some z → x ≡ z

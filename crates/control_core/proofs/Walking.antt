@@ -16,6 +16,7 @@ use Rattle.control_core.specs.declared.state.Core.{Core}
 use Rattle.control_core.specs.Stands.{Holds, Lags}
 use Rattle.control_core.specs.Does.{Does, TellsOn}
 use Rattle.control_core.specs.Passing.{MayPass}
+use Rattle.control_core.proofs.Lemmas.{lags_by}
 use Rattle.control_core.proofs.Passing.{fewer_pass, passes_on}
 
 -- so many of them had theirs, and the next is at this place of the order
@@ -100,16 +101,7 @@ comes_last {k = k} {n = n} {s = s} {core = core} {from = from} {before = before}
 
 pub lags : (closed : Bool) (port : ℕ) (core : Core) (k : Sessions) (y : Session) (s : State) → Holds core s → port ≡ y.host.port → closed ≡ is_over y s → sessions.Holds k (second_of y s).state →
     Lags closed port (record core { sessions = k }) (second_of y s).state
-lags closed port core k y s h p c d =
-    let b = beside_second y s in
-    let t : State = (second_of y s).state in
-    record {
-      config = h.config ∙ sym b.config;
-      clock = h.clock ∙ sym b.clock;
-      ports = b.ports ∙ (λ i. armed_if (sym c i) (sym p i) t (sym h.ports i));
-      sessions = d;
-      kept = h.kept ∙ sym b.kept;
-    }
+lags closed port core k y s h p c d = lags_by closed (is_over y s) port y.host.port core k s (second_of y s).state h.config h.clock h.ports h.kept p c (beside_second y s) d
 
 -- what its host is authorised for then
 pub right_after : (closed : Bool) (y : Session) (s : State) (after : Option Right) → closed ≡ is_over y s → (closed ≡ true → after ≡ None) →

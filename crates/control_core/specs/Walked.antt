@@ -9,14 +9,6 @@ use Rattle.turn_defs.proofs.Walks.{Next}
 use Rattle.control_core.specs.declared.state.Core.{Core}
 use Rattle.control_core.specs.Stands.{Holds}
 
--- a second may go by for it
-pub record MaySecond (n : ℕ) (y : Session) (core : Core) (t : State) : Type 0 where
-  pub next : Next y n t
-  pub holds : Holds core t
-  pub between : IsBetween t
-  pub vlan : HasVlan y
-  pub speaks : Speaks y.host t t
-
 -- it may be closed
 pub record MayEnd (n : ℕ) (y : Session) (core : Core) (t : State) : Type 0 where
   pub next : Next y n t

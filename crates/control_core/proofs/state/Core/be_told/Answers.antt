@@ -9,7 +9,8 @@ use Rattle.switch_defs.specs.Answer.{native_of, says, stands}
 use Rattle.turn_defs.proofs.Parts.{beside_settle, near_told}
 use Rattle.turn_defs.specs.Parts.{is_gone}
 use Rattle.host_sessions.specs.Does as calls
-use Rattle.control_core.proofs.Answering.{kept_at, kept_nowhere, lags_by, means_so, native_here, none_is_some}
+use Rattle.control_core.proofs.Answering.{kept_at, kept_nowhere, means_so, native_here, none_is_some}
+use Rattle.control_core.proofs.Lemmas.{lags_by}
 use Rattle.control_core.proofs.state.Core.be_told.Goals as goal
 
 pub unreachable-requires : goal.unreachable-requires

@@ -17,7 +17,7 @@ returns-clause-holds c = λ t y m.
     let port : y.host.port ≡ c.args.port = sym key.0 ∙ c.if-its_port-port.false in
     let on : on_port c.args.port y ≡ true = (unsigned_Decides y.host.port c.args.port).1 port in
     let lags : Lags true c.args.port (record c.args.self.now { sessions = c.close.new.self }) (close y.host t) =
-    lags_by true true c.args.port c.args.self.now c.close.new.self y.host t (close y.host t) m.holds (beside_close y.host t) refl port (c.close.ensures.holds y t m.holds.sessions at) in
+    lags_by true true c.args.port y.host.port c.args.self.now c.close.new.self t (close y.host t) m.holds.config m.holds.clock m.holds.ports m.holds.kept (sym port) refl (beside_close y.host t) (c.close.ensures.holds y t m.holds.sessions at) in
     if_on (λ u. Holds c.follow.new.self u) (on_port c.args.port y) y t on (c.follow.ensures.holds (close y.host t) lags)
 
 pub returns-clause-told : goal.returns-clause-told
@@ -27,7 +27,7 @@ returns-clause-told c = λ t y m.
     let port : y.host.port ≡ c.args.port = sym key.0 ∙ c.if-its_port-port.false in
     let on : on_port c.args.port y ≡ true = (unsigned_Decides y.host.port c.args.port).1 port in
     let lags : Lags true c.args.port (record c.args.self.now { sessions = c.close.new.self }) (close y.host t) =
-    lags_by true true c.args.port c.args.self.now c.close.new.self y.host t (close y.host t) m.holds (beside_close y.host t) refl port (c.close.ensures.holds y t m.holds.sessions at) in
+    lags_by true true c.args.port y.host.port c.args.self.now c.close.new.self t (close y.host t) m.holds.config m.holds.clock m.holds.ports m.holds.kept (sym port) refl (beside_close y.host t) (c.close.ensures.holds y t m.holds.sessions at) in
     let h : IsOfHost y.host c.args.port c.in-Some-key.mac.0 = record { on = port; whose = sym key.1 } in
     if_on (λ u. TellsOn t u c.args.items.now.items c.follow.new.items.items) (on_port c.args.port y) y t on
     (c.follow.ensures.told t (close y.host t) y.host lags h (c.right-before.ensures t m.holds) (near_end y t m.speaks))

@@ -8,7 +8,7 @@ use Rattle.switch_defs.proofs.Lists.{of_each}
 use Rattle.turn_defs.specs.Parts.{is_gone}
 use Rattle.turn_defs.proofs.Parts.{beside_settle, near_settle}
 use Rattle.host_sessions.specs.Does as calls
-use Rattle.control_core.proofs.Answering.{lags_by}
+use Rattle.control_core.proofs.Lemmas.{lags_by}
 use Rattle.control_core.proofs.state.Core.hear_known.Goals as goal
 
 pub hear-closed-requires-clause-may : goal.hear-closed-requires-clause-may

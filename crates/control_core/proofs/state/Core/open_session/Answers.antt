@@ -13,7 +13,7 @@ use Rattle.turn_defs.specs.Parts.{is_gone}
 use Rattle.turn_defs.specs.Parts as parts
 use Rattle.turn_defs.proofs.Parts.{beside_settle, near_open}
 use Rattle.host_sessions.specs.Does as calls
-use Rattle.control_core.proofs.Answering.{lags_by}
+use Rattle.control_core.proofs.Lemmas.{lags_by}
 use Rattle.control_core.proofs.Hearing.{asked_fits, is_up, next_fits, port_is_one, same_number, sessions_hold}
 use Rattle.control_core.proofs.state.Core.open_session.Goals as goal
 
