@@ -1,5 +1,5 @@
 -- What is done to one session, and what an answer of the server does.
-use Rattle.std.proofs.Common.{◌≡◌, ℕ, refl, sym, ap, subst, ◌∙◌, List, [], Option, Some, None, Bool, true}
+use Rattle.std.proofs.Common.{◌≡◌, ℕ, refl, sym, ap, subst, ◌∙◌, List, [], Option, Some, None, true}
 use Rattle.std.specs.Prelude.{◌==◌, Result, Ok, Err}
 use Rattle.std.specs.Cmp.{unsigned_Decides}
 use Rattle.std.proofs.lemmas.List.{append-nil}
@@ -24,13 +24,12 @@ use Rattle.switch_defs.proofs.Lists.{in_found, in_map, of_each}
 use Rattle.switch_defs.proofs.Fitting.{SaysVlan, answer_vlan, native_vlan}
 use Rattle.switch_defs.proofs.Naming.{answers_name_sessions}
 use Rattle.switch_defs.proofs.Soundness.{answers_may_settle}
-use Rattle.turn_defs.specs.Parts.{Beside, armed_if}
 use Rattle.auth_table.specs.declared.change.Item.{Item}
 use Rattle.host_sessions.specs.declared.sessions.Sessions.{Sessions}
 use Rattle.host_sessions.specs.Holds as sessions
 use Rattle.host_sessions.specs.Finds.{FindsAt, IsAt}
 use Rattle.control_core.specs.declared.state.Core.{Core}
-use Rattle.control_core.specs.Stands.{Holds, Lags, MayTurn}
+use Rattle.control_core.specs.Stands.{Holds, MayTurn}
 use Rattle.control_core.specs.Does.{Does, Turns}
 use Rattle.control_core.specs.Answering as given
 

@@ -1,5 +1,5 @@
 -- What the parts of the core need.
-use Rattle.std.proofs.Common.{◌≡◌, [], ◌∷◌, ℕ, Bool, true, false, List, Option, Some, map, refl, sym, ap, subst, ◌∙◌, cond, ◌+◌, ◌<◌, ◌^◌, arith}
+use Rattle.std.proofs.Common.{◌≡◌, [], ◌∷◌, ℕ, Bool, true, false, List, Option, Some, map, refl, sym, ap, subst, ◌∙◌, cond}
 use Rattle.std.specs.Prelude.{find, ◌&&◌, ◌||◌}
 use Rattle.switch_ports.specs.Ports.{lets_guests}
 use Rattle.table_defs.proofs.Told.{IsShut}
@@ -8,7 +8,7 @@ use Rattle.host_frames.specs.declared.heard.Said.{Said}
 use Rattle.host_frames.specs.declared.heard.Said.TheVariants as said
 use Rattle.host_frames.specs.Heard.{event_of}
 use Rattle.switch_defs.specs.Turn.{set_vars}
-use Rattle.switch_defs.specs.Laws.{MayAsk, most_turns}
+use Rattle.switch_defs.specs.Laws.{MayAsk}
 use Rattle.switch_defs.proofs.Turning.{may_event}
 use Rattle.switch_defs.proofs.Soundness.{sessions_are_few}
 use Rattle.host_sessions.specs.declared.sessions.Sessions.{Sessions}
@@ -24,7 +24,7 @@ use Rattle.table_defs.proofs.Told.{Speaks, aside_close}
 use Rattle.turn_defs.specs.Parts.{Near}
 use Rattle.turn_defs.proofs.Walks.{Next, after_closing}
 use Rattle.control_core.specs.declared.state.Core.{Core}
-use Rattle.control_core.specs.Stands.{Holds, Lags}
+use Rattle.control_core.specs.Stands.{Lags}
 use Rattle.switch_defs.specs.Switch.{Host, Port, Session, State, hosts, is_at, is_port, port_of}
 use Rattle.switch_defs.specs.Decide.{authorised, restricted_of, right_by, right_of}
 use Rattle.switch_defs.specs.Sound.{In, here, there, AreApart, FromHost, start, logoff, packet, IsSound}

@@ -1,9 +1,8 @@
 -- The session at a place of the order, while a walk over them goes on.
 use Rattle.std.specs.Prelude.{ℕ}
 use Rattle.switch_defs.specs.Switch.{Session, State}
-use Rattle.switch_defs.specs.Sound.{AreHosts, HasVlan}
+use Rattle.switch_defs.specs.Sound.{AreHosts}
 use Rattle.switch_defs.specs.Switch as switch
-use Rattle.switch_defs.specs.Laws.{IsBetween}
 use Rattle.table_defs.proofs.Told.{Closes, Speaks}
 use Rattle.turn_defs.proofs.Walks.{Next}
 use Rattle.control_core.specs.declared.state.Core.{Core}
