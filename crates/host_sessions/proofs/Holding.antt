@@ -164,9 +164,9 @@ renewed_same at v es table found =
     by e i false j = rw j refl
     by e i true j =
         let held : held_at at es ≡ Some e = ap (λ q. held_at q es) (sym (eqb-true e.place at j))
-            ∙ of_each (λ f. held_at f.place es ≡ Some f) (each_at_place es table) i in
+        ∙ of_each (λ f. held_at f.place es ≡ Some f) (each_at_place es table) i in
         let same : v ≡ e.value =
-            same_Some v e.value (found ∙ ap (option_map (λ (f : Entry Session). f.value)) held) in
+        same_Some v e.value (found ∙ ap (option_map (λ (f : Entry Session). f.value)) held) in
         rw j (ap (λ (w : Session). record e { value = w }) same)
 
 -- ---- a request that is forgotten
