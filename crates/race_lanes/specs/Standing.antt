@@ -11,8 +11,9 @@ use Rattle.legal_defs.specs.Legal.{Each, Ordered}
 use Rattle.race_lanes.specs.Workers.{at_worker}
 use Rattle.race_lanes.specs.Lines.{SawFrom}
 
--- what contracts see of a run between two phases: its settings, how many lanes and workers it has, the number of the next record, the
--- history, the longest list of changes that each worker has seen, and how many frames were forwarded
+-- what contracts see of a run between two phases: its settings, how many lanes and workers it has,
+-- the number of the next record, the history, the longest list of changes that each worker has
+-- seen, and how many frames were forwarded
 pub record Run : Type 0 where
   pub config : Config
   pub lanes : ℕ
@@ -26,9 +27,10 @@ abbrev pub records_in : List (List Record) → ℕ
 records_in [] = 0
 records_in (p ∷ ps) = length p + records_in ps
 
--- what was printed of some records is in order by this history, each decision was made by a beginning of what its worker has seen, and
--- each worker was told of the whole history
-pub record Kept (c : Config) (lanes workers : ℕ) (at : List Place) (h : List Entry) (seen : ℕ → List Change) (blocks : List Block) : Type 0 where
+-- what was printed of some records is in order by this history, each decision was made by a
+-- beginning of what its worker has seen, and each worker was told of the whole history
+pub record Kept (c : Config) (lanes workers : ℕ) (at : List Place) (h : List Entry)
+    (seen : ℕ → List Change) (blocks : List Block) : Type 0 where
   pub ordered : Ordered c lanes workers at h blocks
   pub saw : Each (λ (b : Block). SawFrom (opening_table c) workers (λ k. []) seen b.line) blocks
   pub told : (k : ℕ) → k < workers → length h ≤ front_of (seen k)

@@ -23,7 +23,8 @@ list_text first list x front =
     data_block x.number front (list_decides first list x) x.octets
 
 -- the decision was made by a list between these two
-pub record Saw (first : Table) (least most : List Change) (x : DataRecord) (d : Shown) : Type 0 where
+pub record Saw (first : Table) (least most : List Change) (x : DataRecord)
+    (d : Shown) : Type 0 where
   pub list : List Change
   pub begins : IsPrefix least list
   pub within : IsPrefix list most
@@ -36,7 +37,8 @@ abbrev pub Hears : Table → (least most : List Change) → List DataRecord → 
 Hears first least most xs ds = Pairs (Saw first least most) xs ds × NoFall (counts ds)
 
 -- the worker decided on this record, by the list that it has then seen
-pub record Heard (first : Table) (list : List Change) (x : DataRecord) (old new : List Shown) : Type 0 where
+pub record Heard (first : Table) (list : List Change) (x : DataRecord)
+    (old new : List Shown) : Type 0 where
   pub shown : Shown
   pub is : new ≡ old ++ shown ∷ []
   pub front : shown.count ≡ front_of list
@@ -49,7 +51,8 @@ pub record Worked (workers k : ℕ) (records : List Numbered) (old new : WorkerJ
   pub first : new.worker.first ≡ old.worker.first
   pub grows : IsPrefix old.worker.list new.worker.list
   pub heard : new.failed ≡ false
-      → Hears old.worker.first old.worker.list new.worker.list (datas_of workers k records) new.decided
+      → Hears old.worker.first old.worker.list new.worker.list
+      (datas_of workers k records) new.decided
 
 -- the worker was told of this published list
 pub record Told (published : List Change) (old new : WorkerJob) : Type 0 where

@@ -1,6 +1,7 @@
-//! A parallel run of phases over one book of the authenticator: in each phase its control records run on lanes that take
-//! turns under a lock, beside its data records on workers that read the published table with no lock, and the blocks that
-//! they print are put in the order of the records.
+//! A parallel run of phases over one book of the authenticator: in each phase its control records
+//! run on lanes that take turns under a lock, beside its data records on workers that read the
+//! published table with no lock, and the blocks that they print are put in the order of the
+//! records.
 #![tactic(auto)]
 
 mod closing;

@@ -19,10 +19,13 @@ use trace_record::TraceRecord;
 fn next_said<'a>(outs: &'a [LaneOut], next: &mut Vec<usize>, lane: usize) -> Block<'a>
     requires inside { lane < length outs.now }
     requires count { length next.old.items ≡ length outs.now }
-    requires more { (d : LaneOut) → slice_index_or next.old.items lane 0 < length (slice_index_or outs.now lane d).said }
-    ensures next { next.new.items ≡ slice_set next.old.items lane (slice_index_or next.old.items lane 0 + 1) }
+    requires more { (d : LaneOut) → slice_index_or next.old.items lane 0 < length
+        (slice_index_or outs.now lane d).said }
+    ensures next { next.new.items ≡ slice_set next.old.items lane
+        (slice_index_or next.old.items lane 0 + 1) }
     ensures said { (s : Shown) × (result.text.now ≡ s.text) × (one_if result.forwards ≡ s.forwards)
-        × ((d : LaneOut) → slice_get (slice_index_or outs.now lane d).said (slice_index_or next.old.items lane 0) ≡ Some s) }
+        × ((d : LaneOut) → slice_get (slice_index_or outs.now lane d).said
+        (slice_index_or next.old.items lane 0) ≡ Some s) }
 {
     let out = &outs[lane];
     let at = next[lane];
@@ -35,10 +38,14 @@ fn next_said<'a>(outs: &'a [LaneOut], next: &mut Vec<usize>, lane: usize) -> Blo
 fn next_decided<'a>(jobs: &'a [WorkerJob], next: &mut Vec<usize>, worker: usize) -> Block<'a>
     requires inside { worker < length jobs.now }
     requires count { length next.old.items ≡ length jobs.now }
-    requires more { (d : WorkerJob) → slice_index_or next.old.items worker 0 < length (slice_index_or jobs.now worker d).decided }
-    ensures next { next.new.items ≡ slice_set next.old.items worker (slice_index_or next.old.items worker 0 + 1) }
-    ensures decided { (s : Shown) × (result.text.now ≡ s.text) × (one_if result.forwards ≡ s.forwards)
-        × ((d : WorkerJob) → slice_get (slice_index_or jobs.now worker d).decided (slice_index_or next.old.items worker 0) ≡ Some s) }
+    requires more { (d : WorkerJob) → slice_index_or next.old.items worker 0 < length
+        (slice_index_or jobs.now worker d).decided }
+    ensures next { next.new.items ≡ slice_set next.old.items worker
+        (slice_index_or next.old.items worker 0 + 1) }
+    ensures decided { (s : Shown) × (result.text.now ≡ s.text)
+        × (one_if result.forwards ≡ s.forwards)
+        × ((d : WorkerJob) → slice_get (slice_index_or jobs.now worker d).decided
+        (slice_index_or next.old.items worker 0) ≡ Some s) }
 {
     let job = &jobs[worker];
     let at = next[worker];
@@ -61,14 +68,18 @@ fn block_at<'a>(
     requires lanes { (1 ≤ lanes) × (lanes ≤ 3) }
     requires workers { (1 ≤ workers) × (workers ≤ 8) }
     requires inside { i < length records.now }
-    requires whole { (first : ℕ) × AreWhole lanes workers (numbered first (entered_all records.now)) outs.now jobs.now
+    requires whole { (first : ℕ) × AreWhole lanes workers
+        (numbered first (entered_all records.now)) outs.now jobs.now
         × ((lines : List Line) × Walked lanes workers outs.now jobs.now
-        (take i (numbered first (entered_all records.now))) lane_next.old.items worker_next.old.items lines) }
+        (take i (numbered first
+        (entered_all records.now))) lane_next.old.items worker_next.old.items lines) }
     ensures { (first : ℕ) (lines : List Line) → Walked lanes workers outs.now jobs.now
-        (take i (numbered first (entered_all records.now))) lane_next.old.items worker_next.old.items lines
+        (take i (numbered first
+        (entered_all records.now))) lane_next.old.items worker_next.old.items lines
         → (line : Line) × (result.text.now ≡ (shown_in line).text)
         × (one_if result.forwards ≡ (shown_in line).forwards)
-        × Walked lanes workers outs.now jobs.now (take (i + 1) (numbered first (entered_all records.now)))
+        × Walked lanes workers outs.now jobs.now
+        (take (i + 1) (numbered first (entered_all records.now)))
         lane_next.new.items worker_next.new.items (lines ++ line ∷ []) }
 {
     match record_at(records, i) {
@@ -102,10 +113,13 @@ pub fn merge(
 ) -> Result<u64, AllocError>
     requires lanes { (1 ≤ lanes) × (lanes ≤ 3) }
     requires workers { (1 ≤ workers) × (workers ≤ 8) }
-    requires whole { (first : ℕ) × AreWhole lanes workers (numbered first (entered_all records.now)) outs.now jobs.now }
-    ensures lines { (first : ℕ) → AreWhole lanes workers (numbered first (entered_all records.now)) outs.now jobs.now
+    requires whole { (first : ℕ) × AreWhole lanes workers
+        (numbered first (entered_all records.now)) outs.now jobs.now }
+    ensures lines { (first : ℕ) → AreWhole lanes workers
+        (numbered first (entered_all records.now)) outs.now jobs.now
         → IfOk result (λ n. (lines : List Line) × (text.new.items ≡ text.old.items ++ text_of lines)
-        × (n ≡ forwarded_in lines) × Merged lanes workers (numbered first (entered_all records.now)) outs.now jobs.now lines) }
+        × (n ≡ forwarded_in lines) × Merged lanes workers
+        (numbered first (entered_all records.now)) outs.now jobs.now lines) }
     ensures few { IfOk result (λ n. n ≤ length records.now) }
 {
     let mut lane_next = vec![in alloc; 0usize; outs.len()]?;

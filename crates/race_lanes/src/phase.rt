@@ -33,7 +33,8 @@ struct Room<B: Booked> {
 
 fn room_for<B: Booked>(alloc: Global, lanes: usize) -> Option<Room<B>>
     ensures empty { IfSome result (λ r. (r.jobs.items ≡ []) × (r.back.items ≡ [])) }
-    ensures room { IfSome result (λ r. (lanes ≤ vec_capacity r.jobs) × (lanes ≤ vec_capacity r.back)) }
+    ensures room { IfSome result (λ r. (lanes ≤ vec_capacity r.jobs)
+        × (lanes ≤ vec_capacity r.back)) }
 {
     let jobs = match Vec::with_capacity(alloc, lanes) {
         Ok(jobs) => jobs,
@@ -120,14 +121,16 @@ fn either(a: bool, b: bool) -> bool
     a || b
 }
 
-// The seats and what was printed, in the other order, whether some lane failed, and whether one met a full book.
+// The seats and what was printed, in the other order, whether some lane failed, and whether one met
+// a full book.
 fn gather_jobs<B: Booked>(
     mut jobs: Vec<LaneJob<B>>,
     back: &mut Vec<LaneSeat<B>>,
     outs: &mut Vec<LaneOut>,
 ) -> (bool, bool)
     requires empty { (back.old.items ≡ []) × (outs.old.items ≡ []) }
-    requires room { (length jobs.items ≤ vec_capacity back.old) × (length jobs.items ≤ vec_capacity outs.old) }
+    requires room { (length jobs.items ≤ vec_capacity back.old)
+        × (length jobs.items ≤ vec_capacity outs.old) }
     ensures seats { map (λ s. seat_view s.chair.table_id s.lane s.chair.me.0) back.new.items
         ≡ turned seat_in jobs.items }
     ensures outs { outs.new.items ≡ turned (λ j. j.out) jobs.items }
@@ -192,7 +195,8 @@ where
                 × (first.now + length records.now < 2 ^ 64) }
             ensures { (i : ℕ) (d : WorkerJob) → i < length worker_jobs.entry.now
                 → Worked workers i (numbered first.entry.now (entered_all records.entry.now))
-                (slice_index_or worker_jobs.entry.now i d) (slice_index_or worker_jobs.exit.now i d) }
+                (slice_index_or worker_jobs.entry.now i d)
+                (slice_index_or worker_jobs.exit.now i d) }
         { run_workers(rt, gate, workers, *first, records, worker_jobs) },
     );
 }
@@ -263,7 +267,8 @@ where
     requires lanes { (1 ≤ lanes) × (lanes ≤ 3) }
     requires workers { (1 ≤ workers) × (workers ≤ 8) }
     requires numbers { first + length records.now < 2 ^ 64 }
-    requires may_come { All (MayCome lock.table.shared.key.value.book.config) (numbered first (entered_all records.now)) }
+    requires may_come { All (MayCome lock.table.shared.key.value.book.config)
+        (numbered first (entered_all records.now)) }
     requires fits { length lock.table.shared.key.value.book.list
         + controls_in (numbered first (entered_all records.now)) ≤ MOST_EVENTS }
     requires count { length seats.items ≡ lanes }
@@ -332,13 +337,16 @@ where
     requires workers { (1 ≤ workers) × (workers ≤ 8) }
     requires numbers { first + length records.now < 2 ^ 64 }
     requires may_come { All (MayCome book.config) (numbered first (entered_all records.now)) }
-    requires fits { length book.list + controls_in (numbered first (entered_all records.now)) ≤ MOST_EVENTS }
+    requires fits { length book.list + controls_in
+        (numbered first (entered_all records.now)) ≤ MOST_EVENTS }
     requires outs { length outs.old.items ≡ lanes }
     requires trays { Each (λ o. most_sessions ≤ o.tray.sessions) outs.old.items }
-    ensures same { (result.0.config ≡ book.config) × (result.0.name ≡ book.name) × (result.0.finished ≡ false) }
+    ensures same { (result.0.config ≡ book.config) × (result.0.name ≡ book.name)
+        × (result.0.finished ≡ false) }
     ensures grows { IsPrefix book.list result.0.list }
     ensures printed { let rs = numbered first (entered_all records.now) in
-        result.1 ≡ true → PhaseOk book.config result.0.list (length book.list) lanes rs outs.new.items
+        result.1 ≡ true → PhaseOk book.config result.0.list
+        (length book.list) lanes rs outs.new.items
         × (length result.0.list ≡ length book.list + controls_in rs) }
     ensures outs { length outs.new.items ≡ lanes }
     ensures trays { Each (λ o. most_sessions ≤ o.tray.sessions) outs.new.items }

@@ -4,6 +4,7 @@ ghost use mathlib.Core.List.{IsPrefix};
 ghost use Rattle.book_lock.specs.Sums.{Each};
 ghost use Rattle.event_record.specs.declared.TheConstants.{MOST_EVENTS};
 ghost use Rattle.switch_event.specs.Config.{is_valid};
+ghost use Rattle.switch_defs.specs.History.{after};
 ghost use Rattle.switch_defs.specs.Switch.{most_sessions};
 ghost use Rattle.trace_defs.specs.Line.{Record};
 ghost use Rattle.auth_publish.specs.Changes.{front_of};
@@ -146,18 +147,23 @@ where
     requires names { All (IsFor book.name book.config) jobs.old }
     requires numbers { number + length records.now < 2 ^ 64 }
     requires may_come { All (MayCome book.config) (numbered number (entered_all records.now)) }
-    requires fits { length book.list + controls_in (numbered number (entered_all records.now)) ≤ MOST_EVENTS }
+    requires fits { length book.list + controls_in
+        (numbered number (entered_all records.now)) ≤ MOST_EVENTS }
     requires outs { length outs.old.items ≡ lanes }
     requires trays { Each (λ o. most_sessions ≤ o.tray.sessions) outs.old.items }
-    ensures same { (result.0.config ≡ book.config) × (result.0.name ≡ book.name) × (result.0.finished ≡ false) }
+    ensures same { (result.0.config ≡ book.config) × (result.0.name ≡ book.name)
+        × (result.0.finished ≡ false) }
     ensures grows { IsPrefix book.list result.0.list }
-    ensures lines { IfOk result.1 (λ n. (ls : List Line) × (text.new.items ≡ text.old.items ++ text_of ls)
-        × (n ≡ forwarded_in ls) × PhaseLines book.config lanes workers (length book.list) result.0.list
+    ensures lines { IfOk result.1 (λ n. (ls : List Line)
+        × (text.new.items ≡ text.old.items ++ text_of ls)
+        × (n ≡ forwarded_in ls) × PhaseLines book.config lanes workers
+        (length book.list) result.0.list
         (numbered number (entered_all records.now)) (seen_by jobs.old) (seen_by jobs.new) ls) }
     ensures few { IfOk result.1 (λ n. n ≤ length records.now) }
     ensures count { length jobs.new ≡ workers }
     ensures names { OnOk result.1 (All (IsFor book.name book.config) jobs.new) }
-    ensures told { OnOk result.1 ((k : ℕ) → k < workers → IsPrefix (seen_by jobs.old k) (seen_by jobs.new k)
+    ensures told { OnOk result.1 ((k : ℕ) → k < workers
+        → IsPrefix (seen_by jobs.old k) (seen_by jobs.new k)
         × (length result.0.list ≤ front_of (seen_by jobs.new k))) }
     ensures outs { length outs.new.items ≡ lanes }
     ensures trays { Each (λ o. most_sessions ≤ o.tray.sessions) outs.new.items }
@@ -193,7 +199,8 @@ impl<A: Authenticator + Drop> Race<A> {
         requires valid { is_valid config ≡ true }
         requires lanes { (1 ≤ lanes) × (lanes ≤ 3) }
         requires workers { (1 ≤ workers) × (workers ≤ 8) }
-        ensures same { IfOk result (λ r. (r.config ≡ config) × (r.lanes ≡ lanes) × (r.workers ≡ workers)) }
+        ensures same { IfOk result (λ r. (r.config ≡ config) × (r.lanes ≡ lanes)
+            × (r.workers ≡ workers)) }
         ensures none { IfOk result (λ r. (r.number ≡ 1) × (r.history ≡ []) × Stands r [] []) }
     {
         let outs = lane_outs(alloc, lanes)?;
@@ -228,11 +235,15 @@ impl<A: Authenticator + Drop> Race<A> {
         A: Send + Sync,
         G: Gate,
         requires numbers { self.number + length records.now < 2 ^ 64 }
-        requires may_come { All (MayCome self.config) (numbered self.number (entered_all records.now)) }
-        requires fits { length self.history + controls_in (numbered self.number (entered_all records.now)) ≤ MOST_EVENTS }
-        ensures same { IfOk result (λ r. (r.config ≡ self.config) × (r.lanes ≡ self.lanes) × (r.workers ≡ self.workers)
+        requires may_come { All (MayCome self.config)
+            (numbered self.number (entered_all records.now)) }
+        requires fits { length self.history + controls_in
+            (numbered self.number (entered_all records.now)) ≤ MOST_EVENTS }
+        ensures same { IfOk result (λ r. (r.config ≡ self.config) × (r.lanes ≡ self.lanes)
+            × (r.workers ≡ self.workers)
             × (r.number ≡ self.number + length records.now)
-            × (length r.history ≡ length self.history + controls_in (numbered self.number (entered_all records.now)))) }
+            × (length r.history ≡ length self.history + controls_in
+            (numbered self.number (entered_all records.now)))) }
         ensures stands { (phases : List (List Record)) (was : List ℕ) → Stands self phases was
             → IfOk result (λ r. (more : List ℕ) × (text.new.items ≡ text.old.items ++ more)
             × Stands r (phases ++ entered_all records.now ∷ []) (was ++ more)) }
@@ -276,6 +287,13 @@ impl<A: Authenticator + Drop> Race<A> {
                 Err(error)
             }
         }
+    }
+
+    /// How many sessions there are now, 0 to 960.
+    pub fn sessions(&self) -> usize
+        ensures { result ≡ length (after self.now.config self.now.history).sessions }
+    {
+        self.book.sessions()
     }
 
     /// How many frames were forwarded so far.

@@ -117,7 +117,8 @@ impl WorkerJob {
     )
         requires workers { (1 ≤ workers) × (workers ≤ 8) }
         requires numbers { first + length records.now < 2 ^ 64 }
-        ensures { Worked workers share (numbered first (entered_all records.now)) self.old self.new }
+        ensures { Worked workers share (numbered first
+            (entered_all records.now)) self.old self.new }
     {
         self.decided.clear();
         let done = take_all(

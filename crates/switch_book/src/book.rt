@@ -4,6 +4,7 @@ ghost use Rattle.switch_event.specs.Config.{is_valid};
 ghost use Rattle.switch_event.specs.Event.{happening};
 ghost use Rattle.event_record.specs.declared.TheConstants.{MOST_EVENTS};
 ghost use Rattle.event_record.specs.Entry.{entry_of};
+ghost use Rattle.switch_defs.specs.History.{after};
 ghost use Rattle.switch_defs.specs.Switch.{most_sessions};
 ghost use Rattle.table_defs.specs.Table.{Change, Finish, opening_table};
 ghost use Rattle.auth_publish.specs.Changes.{front_of};
@@ -217,6 +218,13 @@ impl<A: Authenticator + Drop> Book<A> {
         ensures told { IsTold self.now }
     {
         &self.journal
+    }
+
+    /// How many sessions there are, 0 to 960.
+    pub fn sessions(&self) -> usize
+        ensures { result ≡ length (after self.now.config self.now.list).sessions }
+    {
+        self.first.sessions()
     }
 
     /// Ends it. It waits for workers that are inside. Nobody enters any more.
