@@ -44,7 +44,7 @@ def flood(port):
 
 
 def measured(program, turns, loaded):
-    """Seconds on the clock and of a processor, peak KB of memory, octets of log, forwarded frames."""
+    """Seconds, those of a processor, peak memory in KB, octets of log, forwarded frames."""
     ports = serve_cases.free_ports()
     with tempfile.TemporaryFile() as log:
         words = [program, "serve", *map(str, ports), str(turns)]
