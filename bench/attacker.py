@@ -121,16 +121,17 @@ def data(size, source=STRANGER):
 
 
 def answer_of_two(kind, name=0, last=2):
-    """An answer of attributes of two octets, or so the last one says, under a wrong authenticator."""
+    """An answer under a wrong authenticator, of attributes of two octets, the last as it says."""
     head = bytes([p.ACCESS_ACCEPT, name % 256]) + MOST_RADIUS.to_bytes(2, "big") + bytes(16)
     octets = (head + of_two(kind, MOST_RADIUS - 20))[:-1] + bytes([last])
     return f"radius {name // 256} {octets.hex()}"
 
 
-def naming(kind, value):
+def naming(kind, value, last=b""):
     """A request with as many attributes as fit that name sessions. It is refused in the end."""
     one = p.attribute(kind, value)
-    return lambda n: dyn(dynamic(n, one * ((MOST_DYNAMIC - 44) // len(one)), p.COA_REQUEST))
+    named = one * ((MOST_DYNAMIC - 44 - len(last)) // len(one)) + last
+    return lambda n: dyn(dynamic(n, named, p.COA_REQUEST))
 
 
 def unsigned(n):
@@ -172,6 +173,8 @@ CASES = {
         "let in", 200, lambda n: dyn(kept_request(KEPT + n))),
     "a signed request that names all sessions in each attribute": (
         "let in", 20, naming(p.USER_NAME, NAME)),
+    "a signed request that names all sessions in each attribute but the last": (
+        "let in", 20, naming(p.USER_NAME, NAME, p.attribute(p.USER_NAME, b"eve"))),
     "a signed request that names a port in each attribute": (
         "let in", 20, naming(p.NAS_PORT, PORTS.to_bytes(4, "big"))),
     "a signed request that names a station in each attribute": (
