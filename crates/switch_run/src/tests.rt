@@ -6,7 +6,10 @@ use outside_core::{Failed, MemSink, MemSource, Sink, Source};
 use outside_link::{ListClock, MemLink};
 use std::alloc::{AllocError, Global};
 use std::cell::Cell;
+use std::net::Net;
+use std::sync::Wait;
 use std::test::Fail;
+use std::thread::Threads;
 use switch_top::switch_top;
 
 const ROOM: usize = 1 << 16;
@@ -29,42 +32,40 @@ fn replay(alloc: Global) -> Result<Vec<String>, AllocError> {
 }
 
 // The status of a call over a link and a clock in memory.
-fn called<S: Source, K: Sink>(
-    rt: &HostRuntime,
+fn called<T: Threads + Wait + Net + Sync, S: Source, K: Sink>(
+    rt: &T,
+    alloc: Global,
     words: &[String],
     source: &mut S,
     out: &mut K,
     err: &mut K,
 ) -> Result<u8, AllocError> {
-    let mut link = MemLink::new(rt.alloc(), 0, &[])?;
-    let mut clock = ListClock::new(rt.alloc(), &[])?;
-    Ok(switch_top(
-        rt,
-        rt.alloc(),
-        words,
-        source,
-        out,
-        err,
-        &mut link,
-        &mut clock,
-    ))
+    let mut link = MemLink::new(alloc, 0, &[])?;
+    let mut clock = ListClock::new(alloc, &[])?;
+    Ok(switch_top(rt, alloc, words, source, out, err, &mut link, &mut clock))
 }
 
-fn run(rt: &HostRuntime, words: &[&str], text: &[u8], step: usize) -> Result<Ran, AllocError>
+fn run<T: Threads + Wait + Net + Sync>(
+    rt: &T,
+    alloc: Global,
+    words: &[&str],
+    text: &[u8],
+    step: usize,
+) -> Result<Ran, AllocError>
     requires { 1 ≤ step }
 {
-    let mut all = Vec::new(rt.alloc());
+    let mut all = Vec::new(alloc);
     for word in words {
-        all.push(String::from_str(rt.alloc(), word)?)?;
+        all.push(String::from_str(alloc, word)?)?;
     }
-    let mut source = MemSource::new(rt.alloc(), text, step, &[])?;
-    let mut out = MemSink::new(rt.alloc(), ROOM, &[])?;
-    let mut err = MemSink::new(rt.alloc(), ROOM, &[])?;
-    let status = called(rt, &all, &mut source, &mut out, &mut err)?;
+    let mut source = MemSource::new(alloc, text, step, &[])?;
+    let mut out = MemSink::new(alloc, ROOM, &[])?;
+    let mut err = MemSink::new(alloc, ROOM, &[])?;
+    let status = called(rt, alloc, &all, &mut source, &mut out, &mut err)?;
     Ok(Ran {
         status,
-        out: out.taken().to_vec(rt.alloc())?,
-        err: err.taken().to_vec(rt.alloc())?,
+        out: out.taken().to_vec(alloc)?,
+        err: err.taken().to_vec(alloc)?,
     })
 }
 
@@ -88,7 +89,7 @@ fn traces_print_their_blocks(rt: HostRuntime) -> Result<(), Fail> {
     for (records, printed) in rows {
         let text = format!(in rt.alloc(); "{SETTINGS}{records}")?;
         for step in [1, 4096] {
-            let ran = run(&rt, &["replay"], text.as_bytes(), step)?;
+            let ran = run(&rt, rt.alloc(), &["replay"], text.as_bytes(), step)?;
             assert_eq!(rt; ran.status, 0, "at {records}");
             assert_eq!(rt; ran.out.as_slice(), printed.as_bytes(), "at {records}");
             assert_eq!(rt; ran.err.as_slice(), b"".as_slice(), "at {records}");
@@ -122,7 +123,7 @@ fn each_drop_has_its_name(rt: HostRuntime) -> Result<(), Fail> {
             body.push_str("00")?;
         }
         let text = format!(in rt.alloc(); "{SETTINGS}link 2 up\nsync\nframe 2 {frame}{body}\n")?;
-        let ran = run(&rt, &["replay"], text.as_bytes(), 4096)?;
+        let ran = run(&rt, rt.alloc(), &["replay"], text.as_bytes(), 4096)?;
         let forwards = decision.len() > 20;
         let end = if forwards { body.as_str() } else { "" };
         let feed = if forwards { "\n" } else { "" };
@@ -179,13 +180,13 @@ fn a_refused_line_has_its_number_and_the_phases_before_it_stand(
     ];
     for (text, printed, said) in rows {
         for step in [1, 4096] {
-            let ran = run(&rt, &["replay"], text.as_bytes(), step)?;
+            let ran = run(&rt, rt.alloc(), &["replay"], text.as_bytes(), step)?;
             assert_eq!(rt; ran.status, 3, "at {text}");
             assert_eq!(rt; ran.out.as_slice(), printed.as_bytes(), "at {text}");
             assert_eq!(rt; ran.err.as_slice(), said.as_bytes(), "at {text}");
         }
     }
-    let usage = run(&rt, &["replay", "x"], b"begin\n", 1)?;
+    let usage = run(&rt, rt.alloc(), &["replay", "x"], b"begin\n", 1)?;
     assert_eq!(rt; usage.status, 2);
     assert_eq!(rt; usage.err.as_slice(), b"usage\n".as_slice());
     Ok(())
@@ -211,7 +212,7 @@ fn a_source_that_fails_leaves_the_phases_before(rt: HostRuntime) -> Result<(), F
         let mut out = MemSink::new(rt.alloc(), ROOM, &[])?;
         let mut err = MemSink::new(rt.alloc(), ROOM, &[])?;
         let words = replay(rt.alloc())?;
-        let status = called(&rt, &words, &mut source, &mut out, &mut err)?;
+        let status = called(&rt, rt.alloc(), &words, &mut source, &mut out, &mut err)?;
         assert_eq!(rt; status, 4, "at {call}");
         assert_eq!(rt; out.taken(), printed.as_bytes(), "at {call}");
         assert_eq!(rt; err.taken(), b"read fault\n".as_slice(), "at {call}");
@@ -228,7 +229,7 @@ fn a_sink_that_fails_leaves_all_that_follows_the_phase(rt: HostRuntime) -> Resul
         let mut out = MemSink::new(rt.alloc(), ROOM, &[call])?;
         let mut err = MemSink::new(rt.alloc(), ROOM, &[])?;
         let words = replay(rt.alloc())?;
-        let status = called(&rt, &words, &mut source, &mut out, &mut err)?;
+        let status = called(&rt, rt.alloc(), &words, &mut source, &mut out, &mut err)?;
         assert_eq!(rt; status, 5, "at {call}");
         assert_eq!(rt; out.taken(), printed.as_bytes(), "at {call}");
         assert_eq!(rt; err.taken(), b"write fault\n".as_slice(), "at {call}");
@@ -246,7 +247,7 @@ fn a_sink_without_room_for_a_block_fails(rt: HostRuntime) -> Result<(), Fail> {
     let mut out = MemSink::new(rt.alloc(), FIRST_BLOCK.len() + 1, &[])?;
     let mut err = MemSink::new(rt.alloc(), 5, &[])?;
     let words = replay(rt.alloc())?;
-    let status = called(&rt, &words, &mut source, &mut out, &mut err)?;
+    let status = called(&rt, rt.alloc(), &words, &mut source, &mut out, &mut err)?;
     assert_eq!(rt; status, 5);
     assert_eq!(rt; out.taken(), FIRST_BLOCK.as_bytes());
     assert_eq!(rt; err.taken(), b"".as_slice());
@@ -331,7 +332,7 @@ fn the_first_phase_is_written_before_an_octet_of_the_second_is_given(
     };
     let mut err = SharedSink { shared: &unused };
     let words = replay(rt.alloc())?;
-    let status = called(&rt, &words, &mut source, &mut out, &mut err)?;
+    let status = called(&rt, rt.alloc(), &words, &mut source, &mut out, &mut err)?;
     assert_eq!(rt; status, 0);
     assert_eq!(rt; shared.first_write.get(), SETTINGS.len() as u64 + 15);
     assert_eq!(rt; shared.given.get(), text.len() as u64);
@@ -354,7 +355,7 @@ fn octets_past_the_limit_of_a_word_are_refused(rt: HostRuntime) -> Result<(), Fa
             line.push_str("00")?;
         }
         let text = format!(in rt.alloc(); "{SETTINGS}{word}{line}\n")?;
-        let ran = run(&rt, &["replay"], text.as_bytes(), 4096)?;
+        let ran = run(&rt, rt.alloc(), &["replay"], text.as_bytes(), 4096)?;
         assert_eq!(rt; usize::from(ran.status), status, "at {word}{octets}");
         assert_eq!(rt; ran.err.as_slice(), said.as_bytes(), "at {word}{octets}");
     }
@@ -365,7 +366,7 @@ fn octets_past_the_limit_of_a_word_are_refused(rt: HostRuntime) -> Result<(), Fa
 fn the_phases_before_a_refused_line_are_written(rt: HostRuntime) -> Result<(), Fail> {
     let text = format!(in rt.alloc(); "{SETTINGS}link 1 up\nsync\nlink 2 up\nsync\nlink 61 up")?;
     for step in [1, 4096] {
-        let ran = run(&rt, &["replay"], text.as_bytes(), step)?;
+        let ran = run(&rt, rt.alloc(), &["replay"], text.as_bytes(), step)?;
         assert_eq!(rt; ran.status, 3);
         assert_eq!(rt;
             ran.out.as_slice(),
@@ -395,7 +396,7 @@ fn commented(alloc: Global, octets: usize) -> Result<Vec<u8>, AllocError> {
 #[test]
 fn a_history_has_its_limit(rt: HostRuntime) -> Result<(), Fail> {
     let text = repeated(rt.alloc(), "link 1 up\n", 1_048_577)?;
-    let ran = run(&rt, &["replay"], &text, 4096)?;
+    let ran = run(&rt, rt.alloc(), &["replay"], &text, 4096)?;
     assert_eq!(rt; ran.status, 6);
     assert_eq!(rt; ran.out.as_slice(), b"".as_slice());
     assert_eq!(rt; ran.err.as_slice(), b"full: 1048576\n".as_slice());
@@ -406,7 +407,7 @@ fn a_history_has_its_limit(rt: HostRuntime) -> Result<(), Fail> {
 fn a_comment_of_one_octet_too_many_is_too_long(rt: HostRuntime) -> Result<(), Fail> {
     let text = commented(rt.alloc(), 67_108_865)?;
     assert_eq!(rt; text.len(), 67_108_865);
-    let ran = run(&rt, &["replay"], &text, 4096)?;
+    let ran = run(&rt, rt.alloc(), &["replay"], &text, 4096)?;
     assert_eq!(rt; ran.status, 8);
     assert_eq!(rt; ran.out.as_slice(), b"".as_slice());
     assert_eq!(rt; ran.err.as_slice(), b"too long: 67108864\n".as_slice());
