@@ -2,7 +2,7 @@
 ghost use Rattle.std.specs.Prelude.{◌≤◌, None};
 
 use crate::words::without_name;
-use outside_core::{Failed, MemSink, MemSource, Sink, Source};
+use outside_core::{Failed, MemSink, MemSource, Sink, Source, SureSink, SureSource};
 use outside_link::{ListClock, MemLink};
 use std::alloc::{AllocError, Global};
 use std::cell::Cell;
@@ -197,26 +197,71 @@ const TWO_PHASES: &str = "link 1 up\nsync\nlink 3 up\n";
 
 const FIRST_BLOCK: &str = "c 1 @1 0 ok\nf 1 0180c2000003020000010101888e020000050100000501\n";
 
+// Each read of a run may fail, from the first to the one that finds the end of input.
 #[test]
 fn a_source_that_fails_leaves_the_phases_before(rt: HostRuntime) -> Result<(), Fail> {
     let text = format!(in rt.alloc(); "{SETTINGS}{TWO_PHASES}")?;
-    let first_phase = SETTINGS.len() as u64 + 15;
-    let rows = [
-        (0, ""),
-        (first_phase - 1, ""),
-        (first_phase, FIRST_BLOCK),
-        (first_phase + 10, FIRST_BLOCK),
-    ];
-    for (call, printed) in rows {
-        let mut source = MemSource::new(rt.alloc(), text.as_bytes(), 1, &[call])?;
+    let first_phase = SETTINGS.len() + 15;
+    for call in 0..=text.len() {
+        let mut source = MemSource::new(rt.alloc(), text.as_bytes(), 1, &[call as u64])?;
         let mut out = MemSink::new(rt.alloc(), ROOM, &[])?;
         let mut err = MemSink::new(rt.alloc(), ROOM, &[])?;
         let words = replay(rt.alloc())?;
         let status = called(&rt, rt.alloc(), &words, &mut source, &mut out, &mut err)?;
+        let printed = if call < first_phase { "" } else { FIRST_BLOCK };
         assert_eq!(rt; status, 4, "at {call}");
         assert_eq!(rt; out.taken(), printed.as_bytes(), "at {call}");
         assert_eq!(rt; err.taken(), b"read fault\n".as_slice(), "at {call}");
     }
+    Ok(())
+}
+
+#[test]
+fn over_objects_that_do_not_fail_a_run_is_done(rt: HostRuntime) -> Result<(), Fail> {
+    let text = format!(in rt.alloc(); "{SETTINGS}{TWO_PHASES}")?;
+    let last_block = "c 2 @1 1 ok\nf 3 0180c2000003020000010103888e0200000404000004\n";
+    let printed = format!(in rt.alloc(); "{FIRST_BLOCK}{last_block}")?;
+    let mut source = SureSource::new(rt.alloc(), text.as_bytes(), 7)?;
+    let mut out = SureSink::new(rt.alloc(), printed.len())?;
+    let mut err = SureSink::new(rt.alloc(), 0)?;
+    let words = replay(rt.alloc())?;
+    let status = called(&rt, rt.alloc(), &words, &mut source, &mut out, &mut err)?;
+    assert_eq!(rt; status, 0);
+    assert_eq!(rt; out.taken(), printed.as_bytes());
+    assert_eq!(rt; err.taken(), b"".as_slice());
+    Ok(())
+}
+
+// A sink that takes none of a piece, and counts that as a failure.
+#[derive(Drop)]
+struct Refusing {
+    refused: u64,
+}
+
+impl Sink for Refusing {
+    ghost taken = { λ _. None };
+
+    ghost faults = { λ s. s.refused };
+
+    fn write(&mut self, piece: &[u8]) -> Result<usize, Failed> {
+        self.refused = self.refused.saturating_add(1);
+        Ok(0)
+    }
+}
+
+#[test]
+fn a_sink_that_takes_none_of_the_first_piece_fails(rt: HostRuntime) -> Result<(), Fail> {
+    let text = format!(in rt.alloc(); "{SETTINGS}{TWO_PHASES}")?;
+    let mut source = SureSource::new(rt.alloc(), text.as_bytes(), 4096)?;
+    let mut out = Refusing { refused: 0 };
+    let mut err = Refusing { refused: 0 };
+    let words = replay(rt.alloc())?;
+    let status = called(&rt, rt.alloc(), &words, &mut source, &mut out, &mut err)?;
+    assert_eq!(rt; status, 5);
+    assert_eq!(rt; out.refused, 1);
+    let mut rest = [0; 64];
+    assert_eq!(rt; source.read(&mut rest), Ok(10));
+    assert_eq!(rt; &rest[..10], b"link 3 up\n".as_slice());
     Ok(())
 }
 
