@@ -10,7 +10,8 @@ use Rattle.switch_defs.specs.Switch.{State, opening}
 use Rattle.switch_defs.specs.Turn.{turn}
 use Rattle.day_defs.specs.declared.TheConstants.{HOURS, FRAMES_AN_HOUR, SECONDS_A_FRAME}
 use Rattle.day_defs.specs.Office.{settings, ports, hosts, port_of_host, address_of_host, start_frame, response_frame, data_frame}
-use Rattle.day_defs.specs.Server.{Question, identity_asked, server_asked, last_about, accept_octets}
+use Rattle.day_defs.specs.declared.Question.{Question}
+use Rattle.day_defs.specs.Server.{identity_asked, server_asked, last_about, accept_octets}
 
 -- one thing that is done: the link of a port comes up; a host starts; it gives its identity; the server answers for it; a second goes
 -- by; a host sends a frame

@@ -1,5 +1,5 @@
 -- What is heard of the switch: the identity that it asks a host for, what it asks the RADIUS server, and what the server answers.
-use Rattle.std.specs.Prelude.{ℕ, ◌==◌, ◌&&◌, if◌then◌else◌, List, [], ◌∷◌, drop, slice_index, Option, Some, None, option_and_then, option_map, Result, Ok, Err, true, codes}
+use Rattle.std.specs.Prelude.{ℕ, ◌==◌, ◌&&◌, nat_lt, if◌then◌else◌, List, [], ◌∷◌, drop, slice_index, Option, Some, None, option_and_then, option_map, Result, Ok, Err, true, codes}
 use Rattle.std.specs.Option.{option_or}
 use Rattle.std.specs.Str.{bytes_eq}
 use Rattle.std.specs.Fmt.{decimal}
@@ -19,6 +19,8 @@ use Rattle.radius_defs.specs.Parsed.{packet_of}
 use Rattle.radius_defs.specs.Digest.{response_auth}
 use Rattle.radius_defs.specs.Message.{signed}
 use Rattle.switch_event.specs.Sent.{Sent, ToHost, ToServer, ToClient}
+use Rattle.day_defs.specs.declared.Question.{Question}
+use Rattle.day_defs.specs.declared.TheConstants.{SOCKETS}
 use Rattle.day_defs.specs.Office.{vlan_of_host}
 
 -- whom something that was sent is about, and what it says
@@ -43,14 +45,7 @@ identity_asked (ToClient to octets) = None
 
 -- ---- the server is asked about a host
 
--- what the server needs for its answer: the socket that the Access-Request left by, its identifier and its authenticator (RFC 2865,
--- section 3), and the identifier of the EAP Response that it carries
-pub record Question : Type 0 where
-  pub socket : ℕ
-  pub identifier : ℕ
-  pub authenticator : List ℕ
-  pub response : ℕ
-
+-- what the server needs for its answer
 abbrev pub question_of : (socket : ℕ) → Packet → Question
 question_of socket p = record {
   socket = socket;
@@ -67,9 +62,10 @@ abbrev pub question_in : (socket : ℕ) → Option Packet → About Question
 question_in socket None = None
 question_in socket (Some p) = option_map (λ address. (address, question_of socket p)) (host_named p)
 
+-- the server answers where the switch can hear it
 abbrev pub server_asked : Sent → About Question
 server_asked (ToHost port octets) = None
-server_asked (ToServer socket octets) = question_in socket (packet_of octets)
+server_asked (ToServer socket octets) = if nat_lt socket SOCKETS then question_in socket (packet_of octets) else None
 server_asked (ToClient to octets) = None
 
 -- ---- the last of what was heard

@@ -16,3 +16,19 @@ pub const FRAMES_AN_HOUR: u16 = 10;
 
 /// How many seconds go by before each of these frames.
 pub const SECONDS_A_FRAME: u16 = 360;
+
+/// How many sockets the switch asks the server by, numbered from 0.
+pub const SOCKETS: u8 = 4;
+
+/// What the RADIUS server needs to know of an Access-Request to answer it.
+#[derive(Clone, Copy, Debug, PartialEq, Eq)]
+pub struct Question {
+    /// The socket that the request left by, 0 to 3.
+    pub socket: u8,
+    /// The identifier of the request (RFC 2865, section 3).
+    pub identifier: u8,
+    /// The authenticator of the request (RFC 2865, section 3).
+    pub authenticator: [u8; 16],
+    /// The identifier of the EAP Response that the request carries (RFC 3748, 4.1).
+    pub response: u8,
+}
