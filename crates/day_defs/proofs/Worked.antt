@@ -1,7 +1,7 @@
 -- Worked examples, by computation: the settings are those of a trace, and records of days with few hosts are those of another program,
 -- which writes them as a trace.
-use Rattle.std.proofs.Common.{◌≡◌, ℕ, ◌+◌, refl, List, [], ◌∷◌, ◌++◌, codes, drop, length, map, true, Option, Some, None}
-use Rattle.std.specs.List.{flat_map, range_with_len}
+use Rattle.std.proofs.Common.{◌≡◌, ℕ, refl, List, [], ◌∷◌, ◌++◌, codes, drop, true}
+use Rattle.std.specs.List.{flat_map}
 use Rattle.std.specs.Fmt.{decimal, digits}
 use Rattle.hex.proofs.OnLiterals.{hex_on_literals}
 use Rattle.md5.specs.Md5.{md5, digest_bytes, hash_after, compress, rounds, block_words}
@@ -19,7 +19,7 @@ use Rattle.trace_defs.specs.Trace.{trace_of, progress_of}
 use Rattle.switch_defs.specs.Decide.{decide}
 use Rattle.day_defs.specs.Office.{settings, ports, data_frame}
 use Rattle.day_defs.specs.Server.{accept_octets}
-use Rattle.day_defs.specs.Day.{Day, dawn, arrival, hour, renewal, after_acts, recorded}
+use Rattle.day_defs.specs.Day.{dawn, arrival, hour, renewal, seconds_and_frames, after_acts, recorded}
 
 abbrev settings_text : List ℕ
 settings_text =
@@ -65,7 +65,7 @@ one_logs_in_again : flat_map record_text (recorded (after_acts (after_acts dawn 
     ++ codes "40060000000d410600000006510431314f0603020004" ++ 10 ∷ [] ++
     codes "frame 1 0200000fffff0200000000010800"
     ++ codes "00000000000000000000000000000000000000000000000000000000000000000000000000000000000000000000" ++ 10 ∷ []
-unfolding settings arrival hour renewal accept_octets digits hex_on_literals settled pieces request_octets next_name packet_of attributes_of
+unfolding settings arrival hour seconds_and_frames renewal accept_octets digits hex_on_literals settled pieces request_octets next_name packet_of attributes_of
     run_within first_attribute authenticator u32_at block_word double_rounds column_round diagonal_round quarter_round md5
     digest_bytes hash_after compress rounds block_words
 one_logs_in_again = refl

@@ -30,7 +30,7 @@ unfoldable pub arrival : ℕ → List Act
 arrival n = map LinkUp ports ++ flat_map (λ h. Start h ∷ Respond h ∷ Answer h ∷ []) (hosts n)
 
 -- some seconds, and a frame of each host
-abbrev pub seconds_and_frames : ℕ → List Act
+unfoldable pub seconds_and_frames : ℕ → List Act
 seconds_and_frames n = replicate SECONDS_A_FRAME Second ++ map Send (hosts n)
 
 -- an hour goes by

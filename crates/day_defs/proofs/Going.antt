@@ -1,0 +1,56 @@
+-- How a day goes on: what is done first, and then what is done next; and how much is done.
+use Rattle.std.proofs.Common.{◌≡◌, ℕ, zero, suc, ◌+◌, ◌*◌, List, [], ◌∷◌, ◌++◌, length, map, replicate, refl, ap, ◌∙◌, arith, length-append}
+use Rattle.std.specs.Prelude.{Option, Some, None}
+use Rattle.std.specs.List.{flat_map, range_with_len}
+use Rattle.std.proofs.lemmas.List.{length-map}
+use Rattle.std.proofs.lemmas.List.FromFn.{length-range_with_len}
+use Rattle.trace_defs.specs.Line.{Record}
+use Rattle.day_defs.specs.declared.TheConstants.{FRAMES_AN_HOUR, SECONDS_A_FRAME}
+use Rattle.day_defs.specs.Office.{ports, hosts}
+use Rattle.day_defs.specs.Day.{Act, LinkUp, Start, Respond, Answer, Second, Send, Day, record_of, after_act, after_acts, with_record, recorded, arrival, seconds_and_frames, hour, renewal}
+
+-- ---- one after another
+
+pub after_acts-append : (d : Day) (first next : List Act) → after_acts d (first ++ next) ≡ after_acts (after_acts d first) next
+after_acts-append d [] next = refl
+after_acts-append d (a ∷ rest) next = after_acts-append (after_act d a) rest next
+
+with_record-append : (o : Option Record) (xs ys : List Record) → with_record o (xs ++ ys) ≡ with_record o xs ++ ys
+with_record-append None xs ys = refl
+with_record-append (Some r) xs ys = refl
+
+pub recorded-append : (d : Day) (first next : List Act) → recorded d (first ++ next) ≡ recorded d first ++ recorded (after_acts d first) next
+recorded-append d [] next = refl
+recorded-append d (a ∷ rest) next =
+    ap (with_record (record_of d.sent a)) (recorded-append (after_act d a) rest next)
+    ∙ with_record-append (record_of d.sent a) (recorded (after_act d a) rest) (recorded (after_acts (after_act d a) rest) next)
+
+-- ---- how much is done
+
+length-each : (f : ℕ → List Act) (size : ℕ) → ((k : ℕ) → length (f k) ≡ size) → (first n : ℕ) → length (flat_map f (range_with_len first n)) ≡ size * n
+length-each f size each first zero = omega arith
+length-each f size each first (suc n) =
+    let rest = length-each f size each (first + 1) n in
+    let both = length-append (f first) (flat_map f (range_with_len (first + 1) n)) in
+    grind (arith, each first)
+
+pub length-arrival : (n : ℕ) → length (arrival n) ≡ 60 + 3 * n
+unfolding arrival
+length-arrival n =
+    length-append (map LinkUp ports) (flat_map (λ h. Start h ∷ Respond h ∷ Answer h ∷ []) (hosts n))
+    ∙ ap (λ k. 60 + k) (length-each (λ h. Start h ∷ Respond h ∷ Answer h ∷ []) 3 (λ h. refl) 1 n)
+
+pub length-seconds_and_frames : (n : ℕ) → length (seconds_and_frames n) ≡ 360 + n
+unfolding seconds_and_frames
+length-seconds_and_frames n =
+    length-append (replicate SECONDS_A_FRAME Second) (map Send (hosts n)) ∙ ap (λ k. 360 + k) (length-map (hosts n) Send ∙ length-range_with_len 1 n)
+
+pub length-hour : (n : ℕ) → length (hour n) ≡ 10 * (360 + n)
+unfolding hour
+length-hour n =
+    let all = length-each (λ part. seconds_and_frames n) (360 + n) (λ part. length-seconds_and_frames n) 0 FRAMES_AN_HOUR in
+    omega arith
+
+pub length-renewal : (n : ℕ) → length (renewal n) ≡ 3 * n
+unfolding renewal
+length-renewal n = length-each (λ h. Respond h ∷ Answer h ∷ Send h ∷ []) 3 (λ h. refl) 1 n
