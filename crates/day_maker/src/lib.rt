@@ -5,4 +5,7 @@
 mod accept;
 mod frames;
 mod hearing;
+mod maker;
 mod notes;
+
+pub use maker::DayMaker;
