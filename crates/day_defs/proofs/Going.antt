@@ -7,7 +7,7 @@ use Rattle.std.proofs.lemmas.List.FromFn.{length-range_with_len}
 use Rattle.trace_defs.specs.Line.{Record}
 use Rattle.day_defs.specs.declared.TheConstants.{FRAMES_AN_HOUR, SECONDS_A_FRAME}
 use Rattle.day_defs.specs.Office.{ports, hosts}
-use Rattle.day_defs.specs.Day.{Act, LinkUp, Start, Respond, Answer, Second, Send, Day, record_of, after_act, after_acts, with_record, recorded, arrival, seconds_and_frames, hour, renewal}
+use Rattle.day_defs.specs.Day.{Act, Send, Day, record_of, after_act, after_acts, with_record, recorded, links, log_in, renew, arrival, seconds, seconds_and_frames, hour, renewal}
 
 -- ---- one after another
 
@@ -34,16 +34,23 @@ length-each f size each first (suc n) =
     let both = length-append (f first) (flat_map f (range_with_len (first + 1) n)) in
     grind (arith, each first)
 
+length-links : length links ≡ 60
+unfolding links
+length-links = refl
+
 pub length-arrival : (n : ℕ) → length (arrival n) ≡ 60 + 3 * n
 unfolding arrival
 length-arrival n =
-    length-append (map LinkUp ports) (flat_map (λ h. Start h ∷ Respond h ∷ Answer h ∷ []) (hosts n))
-    ∙ ap (λ k. 60 + k) (length-each (λ h. Start h ∷ Respond h ∷ Answer h ∷ []) 3 (λ h. refl) 1 n)
+    let each = length-each log_in 3 (λ h. refl) 1 n in
+    omega (arith, length-append links (flat_map log_in (hosts n)), length-links, each)
 
-pub length-seconds_and_frames : (n : ℕ) → length (seconds_and_frames n) ≡ 360 + n
-unfolding seconds_and_frames
+length-seconds : length seconds ≡ 360
+unfolding seconds
+length-seconds = refl
+
+length-seconds_and_frames : (n : ℕ) → length (seconds_and_frames n) ≡ 360 + n
 length-seconds_and_frames n =
-    length-append (replicate SECONDS_A_FRAME Second) (map Send (hosts n)) ∙ ap (λ k. 360 + k) (length-map (hosts n) Send ∙ length-range_with_len 1 n)
+    omega (arith, length-append seconds (map Send (hosts n)), length-seconds, length-map (hosts n) Send, length-range_with_len 1 n)
 
 pub length-hour : (n : ℕ) → length (hour n) ≡ 10 * (360 + n)
 unfolding hour
@@ -53,4 +60,4 @@ length-hour n =
 
 pub length-renewal : (n : ℕ) → length (renewal n) ≡ 3 * n
 unfolding renewal
-length-renewal n = length-each (λ h. Respond h ∷ Answer h ∷ Send h ∷ []) 3 (λ h. refl) 1 n
+length-renewal n = length-each renew 3 (λ h. refl) 1 n

@@ -19,7 +19,7 @@ use Rattle.trace_defs.specs.Trace.{trace_of, progress_of}
 use Rattle.switch_defs.specs.Decide.{decide}
 use Rattle.day_defs.specs.Office.{settings, ports, data_frame}
 use Rattle.day_defs.specs.Server.{accept_octets}
-use Rattle.day_defs.specs.Day.{dawn, arrival, hour, renewal, seconds_and_frames, after_acts, recorded}
+use Rattle.day_defs.specs.Day.{dawn, links, arrival, seconds, hour, renewal, after_acts, recorded}
 
 abbrev settings_text : List ℕ
 settings_text =
@@ -46,14 +46,14 @@ two_arrive : flat_map record_text (drop 60 (recorded dawn (arrival 2))) ≡
     codes "frame 2 0180c2000003020000000002888e0200000a0201000a017573657232" ++ 10 ∷ [] ++
     codes "radius 0201003c79c43384dede4f4033af105a8773f54950129ba3a6020ef27260189f5e448ffa7c25"
     ++ codes "40060000000d410600000006510431324f0603010004" ++ 10 ∷ []
-unfolding settings arrival accept_octets digits hex_on_literals settled pieces request_octets next_name packet_of attributes_of
+unfolding settings links arrival accept_octets digits hex_on_literals settled pieces request_octets next_name packet_of attributes_of
     run_within first_attribute authenticator u32_at block_word double_rounds column_round diagonal_round quarter_round md5
     digest_bytes hash_after compress rounds block_words
 two_arrive = refl
 
 -- from then on the host is forwarded, into the VLAN that it was granted
 one_is_forwarded : decide (after_acts dawn (arrival 1)).state 1 (data_frame 1) ≡ Forward 1 11
-unfolding settings arrival accept_octets digits settled pieces request_octets next_name packet_of attributes_of run_within
+unfolding settings links arrival accept_octets digits settled pieces request_octets next_name packet_of attributes_of run_within
     first_attribute authenticator u32_at block_word double_rounds column_round diagonal_round quarter_round md5 digest_bytes
     hash_after compress rounds block_words
 one_is_forwarded = refl
@@ -65,7 +65,7 @@ one_logs_in_again : flat_map record_text (recorded (after_acts (after_acts dawn 
     ++ codes "40060000000d410600000006510431314f0603020004" ++ 10 ∷ [] ++
     codes "frame 1 0200000fffff0200000000010800"
     ++ codes "00000000000000000000000000000000000000000000000000000000000000000000000000000000000000000000" ++ 10 ∷ []
-unfolding settings arrival hour seconds_and_frames renewal accept_octets digits hex_on_literals settled pieces request_octets next_name packet_of attributes_of
+unfolding settings links arrival seconds hour renewal accept_octets digits hex_on_literals settled pieces request_octets next_name packet_of attributes_of
     run_within first_attribute authenticator u32_at block_word double_rounds column_round diagonal_round quarter_round md5
     digest_bytes hash_after compress rounds block_words
 one_logs_in_again = refl

@@ -25,21 +25,36 @@ pub data Act : Type 0 where
 
 -- ---- what is done
 
+-- the links of all ports come up
+unfoldable pub links : List Act
+links = map LinkUp ports
+
+-- a host logs in; and again, where it was asked again, and sends a frame
+abbrev pub log_in : ℕ → List Act
+log_in h = Start h ∷ Respond h ∷ Answer h ∷ []
+
+abbrev pub renew : ℕ → List Act
+renew h = Respond h ∷ Answer h ∷ Send h ∷ []
+
 -- links come up and hosts log in, one after another
 unfoldable pub arrival : ℕ → List Act
-arrival n = map LinkUp ports ++ flat_map (λ h. Start h ∷ Respond h ∷ Answer h ∷ []) (hosts n)
+arrival n = links ++ flat_map log_in (hosts n)
 
--- some seconds, and a frame of each host
-unfoldable pub seconds_and_frames : ℕ → List Act
-seconds_and_frames n = replicate SECONDS_A_FRAME Second ++ map Send (hosts n)
+-- some seconds go by
+unfoldable pub seconds : List Act
+seconds = replicate SECONDS_A_FRAME Second
+
+-- then each host sends a frame
+abbrev pub seconds_and_frames : ℕ → List Act
+seconds_and_frames n = seconds ++ map Send (hosts n)
 
 -- an hour goes by
 unfoldable pub hour : ℕ → List Act
 hour n = flat_map (λ part. seconds_and_frames n) (range_with_len 0 FRAMES_AN_HOUR)
 
--- the hosts, which are asked again, log in again, one after another, and each sends a frame
+-- the hosts log in again, one after another
 unfoldable pub renewal : ℕ → List Act
-renewal n = flat_map (λ h. Respond h ∷ Answer h ∷ Send h ∷ []) (hosts n)
+renewal n = flat_map renew (hosts n)
 
 -- the phases of a day with so many hosts
 abbrev pub phases : ℕ → List (List Act)

@@ -7,5 +7,6 @@ mod frames;
 mod hearing;
 mod maker;
 mod notes;
+mod phases;
 
 pub use maker::DayMaker;
