@@ -27,14 +27,14 @@ recorded-append d (a ∷ rest) next =
 
 -- ---- how much is done
 
-length-each : (f : ℕ → List Act) (size : ℕ) → ((k : ℕ) → length (f k) ≡ size) → (first n : ℕ) → length (flat_map f (range_with_len first n)) ≡ size * n
+pub length-each : (f : ℕ → List Act) (size : ℕ) → ((k : ℕ) → length (f k) ≡ size) → (first n : ℕ) → length (flat_map f (range_with_len first n)) ≡ size * n
 length-each f size each first zero = omega arith
 length-each f size each first (suc n) =
     let rest = length-each f size each (first + 1) n in
     let both = length-append (f first) (flat_map f (range_with_len (first + 1) n)) in
     grind (arith, each first)
 
-length-links : length links ≡ 60
+pub length-links : length links ≡ 60
 unfolding links
 length-links = refl
 
@@ -44,11 +44,11 @@ length-arrival n =
     let each = length-each log_in 3 (λ h. refl) 1 n in
     omega (arith, length-append links (flat_map log_in (hosts n)), length-links, each)
 
-length-seconds : length seconds ≡ 360
+pub length-seconds : length seconds ≡ 360
 unfolding seconds
 length-seconds = refl
 
-length-seconds_and_frames : (n : ℕ) → length (seconds_and_frames n) ≡ 360 + n
+pub length-seconds_and_frames : (n : ℕ) → length (seconds_and_frames n) ≡ 360 + n
 length-seconds_and_frames n =
     omega (arith, length-append seconds (map Send (hosts n)), length-seconds, length-map (hosts n) Send, length-range_with_len 1 n)
 

@@ -1,6 +1,8 @@
 -- What one thing that is done adds, and what some things do one after another.
-use Rattle.std.proofs.Common.{◌≡◌, ℕ, suc, ◌+◌, ◌-◌, ◌<◌, ◌≤◌, List, [], ◌∷◌, ◌++◌, length, refl, sym, ap, ◌∙◌, subst, arith, append_assoc, append-nil, length-append}
+use Rattle.std.proofs.Common.{◌≡◌, ℕ, zero, suc, add-one, ◌+◌, ◌-◌, ◌<◌, ◌≤◌, List, [], ◌∷◌, ◌++◌, length, refl, sym, ap, ◌∙◌, subst, arith, append_assoc, append-nil, length-append}
 use Rattle.std.specs.Prelude.{Option, Some, None, Result, Ok, Err, OnOk, get_or}
+use Rattle.std.specs.List.{flat_map, range_with_len}
+use Rattle.std.proofs.lemmas.Grind.{flat_map-append}
 use Rattle.switch_event.specs.Event.{Happening}
 use Rattle.switch_event.specs.Sent.{Sent}
 use Rattle.switch_defs.specs.Switch.{State, most_sessions}
@@ -19,6 +21,10 @@ use Rattle.day_maker.specs.Making.{Stands, Adds, Turned, TurnsFew, Makes}
 pub on_both : {T E P Q R : Type 0} (r : Result T E) → OnOk r P → OnOk r Q → (P → Q → R) → OnOk r R
 on_both (Ok x) p q f = f p q
 on_both (Err e) p q f = tt
+
+pub on_ok : {T E P Q : Type 0} (r : Result T E) → OnOk r P → (P → Q) → OnOk r Q
+on_ok (Ok x) p f = f p
+on_ok (Err e) p f = tt
 
 module _ {A : Type 0} (stands : A → State → Type 0) (made : A → ℕ) where
   -- the note of a host
@@ -80,3 +86,25 @@ module _ {A : Type 0} (stands : A → State → Type 0) (made : A → ℕ) where
         ∙ ap (λ (rs : List Record). entered_all was ++ rs) (sym (recorded-append d first next));
     turns = omega (arith, f.turns, n.turns, length-append first next);
   }
+
+  -- what was done so far, and one thing more
+  pub makes-next : (old mid new : DayMaker A) (all first next : List Act) (was then_ after : List TraceRecord) → all ≡ first ++ next
+      → Makes stands made old mid first was then_ → Makes stands made mid new next then_ after → Makes stands made old new all was after
+  makes-next old mid new all first next was then_ after is f n =
+      subst (λ (acts : List Act). Makes stands made old new acts was after) (sym is) (makes-then old mid new first next was then_ after f n)
+
+-- ---- ranges that grow
+
+range-more : (first n : ℕ) → range_with_len first (suc n) ≡ range_with_len first n ++ (first + n) ∷ []
+range-more first zero = ap (λ (k : ℕ). k ∷ []) (omega arith)
+range-more first (suc n) =
+    let last : first + 1 + n ≡ first + suc n = omega arith in
+    ap (λ (rest : List ℕ). first ∷ rest) (range-more (first + 1) n) ∙ ap (λ (k : ℕ). first ∷ range_with_len (first + 1) n ++ k ∷ []) last
+
+pub each-more : (f : ℕ → List Act) (first n k : ℕ) → first + n ≡ k → flat_map f (range_with_len first (n + 1)) ≡ flat_map f (range_with_len first n) ++ f k
+each-more f first n k is =
+    rw (add-one n)
+    (ap (flat_map f) (range-more first n)
+    ∙ flat_map-append f (range_with_len first n) ((first + n) ∷ [])
+    ∙ ap (λ (acts : List Act). flat_map f (range_with_len first n) ++ acts) (append-nil (f (first + n)))
+    ∙ ap (λ (j : ℕ). flat_map f (range_with_len first n) ++ f j) is)

@@ -1,0 +1,9 @@
+use Rattle.std.proofs.Common.{map}
+use Rattle.std.specs.List.{range_with_len}
+use Rattle.day_defs.specs.Day.{Send}
+use Rattle.day_maker.specs.Making.{Makes}
+use Rattle.day_maker.proofs.maker.DayMaker.send_all.Given as goal
+
+abbrev pub invariant-loop-n : goal.invariant-loop-n
+invariant-loop-n g l =
+    Makes g.A.Authenticator.stands g.A.Authenticator.made l.initial.self l.self (map Send (range_with_len 1 l.n)) l.initial.records.items l.records.items
