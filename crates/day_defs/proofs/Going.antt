@@ -1,12 +1,12 @@
 -- How a day goes on: what is done first, and then what is done next; and how much is done.
-use Rattle.std.proofs.Common.{◌≡◌, ℕ, zero, suc, ◌+◌, ◌*◌, List, [], ◌∷◌, ◌++◌, length, map, replicate, refl, ap, ◌∙◌, arith, length-append}
+use Rattle.std.proofs.Common.{◌≡◌, ℕ, zero, suc, ◌+◌, ◌*◌, List, [], ◌∷◌, ◌++◌, length, map, refl, ap, ◌∙◌, arith, length-append}
 use Rattle.std.specs.Prelude.{Option, Some, None}
 use Rattle.std.specs.List.{flat_map, range_with_len}
 use Rattle.std.proofs.lemmas.List.{length-map}
 use Rattle.std.proofs.lemmas.List.FromFn.{length-range_with_len}
 use Rattle.trace_defs.specs.Line.{Record}
-use Rattle.day_defs.specs.declared.TheConstants.{FRAMES_AN_HOUR, SECONDS_A_FRAME}
-use Rattle.day_defs.specs.Office.{ports, hosts}
+use Rattle.day_defs.specs.declared.TheConstants.{FRAMES_AN_HOUR}
+use Rattle.day_defs.specs.Office.{hosts}
 use Rattle.day_defs.specs.Day.{Act, Send, Day, record_of, after_act, after_acts, with_record, recorded, links, log_in, renew, arrival, seconds, seconds_and_frames, hour, renewal}
 
 -- ---- one after another

@@ -1,18 +1,17 @@
 -- What one thing that is done adds, and what some things do one after another.
-use Rattle.std.proofs.Common.{◌≡◌, ℕ, zero, suc, add-one, ◌+◌, ◌-◌, ◌<◌, ◌≤◌, List, [], ◌∷◌, ◌++◌, length, refl, sym, ap, ◌∙◌, subst, arith, append_assoc, append-nil, length-append}
+use Rattle.std.proofs.Common.{◌≡◌, ℕ, zero, suc, add-one, ◌+◌, ◌-◌, ◌≤◌, List, [], ◌∷◌, ◌++◌, length, refl, sym, ap, ◌∙◌, subst, arith, append_assoc, append-nil, length-append}
 use Rattle.std.specs.Prelude.{Option, Some, None, Result, Ok, Err, OnOk, get_or}
 use Rattle.std.specs.List.{flat_map, range_with_len}
 use Rattle.std.proofs.lemmas.Grind.{flat_map-append}
 use Rattle.switch_event.specs.Event.{Happening}
 use Rattle.switch_event.specs.Sent.{Sent}
-use Rattle.switch_defs.specs.Switch.{State, most_sessions}
+use Rattle.switch_defs.specs.Switch.{State}
 use Rattle.switch_defs.specs.Turn.{turn}
 use Rattle.switch_defs.proofs.Settings.{config_turn}
 use Rattle.trace_defs.specs.Line.{Record}
 use Rattle.trace_record.specs.declared.TraceRecord.{TraceRecord}
 use Rattle.trace_record.specs.Entered.{entered_all}
-use Rattle.day_defs.specs.Office.{settings}
-use Rattle.day_defs.specs.Day.{Act, Day, record_of, after_that, after_act, after_acts, with_record, recorded, control}
+use Rattle.day_defs.specs.Day.{Act, Day, record_of, after_that, after_acts, with_record, recorded}
 use Rattle.day_defs.proofs.Going.{after_acts-append, recorded-append}
 use Rattle.day_maker.specs.declared.maker.DayMaker.{DayMaker}
 use Rattle.day_maker.specs.Hearing.{Hears, blank, note_of}

@@ -1,5 +1,5 @@
 -- What is heard of the switch, as it is noted.
-use Rattle.std.specs.Prelude.{ℕ, ◌+◌, ◌<◌, ◌≡◌, ◌≢◌, List, length, slice_index_or, Option, Some, None}
+use Rattle.std.specs.Prelude.{ℕ, ◌+◌, ◌<◌, ◌≡◌, ◌≢◌, List, length, slice_index_or, None}
 use Rattle.wire_core.specs.declared.address.Mac.{Mac}
 use Rattle.switch_event.specs.Sent.{Sent}
 use Rattle.day_defs.specs.Office.{address_of_host}

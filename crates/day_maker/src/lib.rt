@@ -7,6 +7,8 @@ mod frames;
 mod hearing;
 mod maker;
 mod notes;
+mod office;
 mod phases;
 
 pub use maker::DayMaker;
+pub use office::settings;

@@ -16,7 +16,11 @@ impl<A: Authenticator + Drop> DayMaker<A> {
     /// Adds the records of the first phase: the links of all ports come up, and the hosts log in, one
     /// after another. There must be room for them in a history. `AllocError`: there is no memory; then
     /// the maker is not used again.
-    pub fn arrival(&mut self, alloc: Global, records: &mut Vec<TraceRecord>) -> Result<(), AllocError>
+    pub fn arrival(
+        &mut self,
+        alloc: Global,
+        records: &mut Vec<TraceRecord>,
+    ) -> Result<(), AllocError>
         requires day { (d : day.Day) × Stands A.stands self.old d }
         requires few { A.made self.old.core + length (day.arrival self.old.hosts) ≤ most_turns }
         ensures { OnOk result (Makes A.stands A.made self.old self.new (day.arrival self.old.hosts) records.old.items records.new.items) }
@@ -40,7 +44,11 @@ impl<A: Authenticator + Drop> DayMaker<A> {
 
     /// Adds the records in which the hosts log in again, one after another, and each sends a frame.
     /// Otherwise as [`DayMaker::arrival`].
-    pub fn renewal(&mut self, alloc: Global, records: &mut Vec<TraceRecord>) -> Result<(), AllocError>
+    pub fn renewal(
+        &mut self,
+        alloc: Global,
+        records: &mut Vec<TraceRecord>,
+    ) -> Result<(), AllocError>
         requires day { (d : day.Day) × Stands A.stands self.old d }
         requires few { A.made self.old.core + length (day.renewal self.old.hosts) ≤ most_turns }
         ensures { OnOk result (Makes A.stands A.made self.old self.new (day.renewal self.old.hosts) records.old.items records.new.items) }
@@ -62,7 +70,11 @@ impl<A: Authenticator + Drop> DayMaker<A> {
         Ok(())
     }
 
-    fn log_in_all(&mut self, alloc: Global, records: &mut Vec<TraceRecord>) -> Result<(), AllocError>
+    fn log_in_all(
+        &mut self,
+        alloc: Global,
+        records: &mut Vec<TraceRecord>,
+    ) -> Result<(), AllocError>
         requires day { (d : day.Day) × Stands A.stands self.old d }
         requires few { A.made self.old.core + 3 * self.old.hosts ≤ most_turns }
         ensures { OnOk result (Makes A.stands A.made self.old self.new (flat_map day.log_in (hosts_of self.old.hosts)) records.old.items records.new.items) }
@@ -74,7 +86,12 @@ impl<A: Authenticator + Drop> DayMaker<A> {
     }
 
     // A host logs in.
-    fn log_in(&mut self, alloc: Global, host: u8, records: &mut Vec<TraceRecord>) -> Result<(), AllocError>
+    fn log_in(
+        &mut self,
+        alloc: Global,
+        host: u8,
+        records: &mut Vec<TraceRecord>,
+    ) -> Result<(), AllocError>
         requires day { (d : day.Day) × Stands A.stands self.old d }
         requires few { A.made self.old.core + 3 ≤ most_turns }
         requires host { 1 ≤ host }
@@ -87,7 +104,12 @@ impl<A: Authenticator + Drop> DayMaker<A> {
     }
 
     // A host logs in again, and sends a frame.
-    fn renew(&mut self, alloc: Global, host: u8, records: &mut Vec<TraceRecord>) -> Result<(), AllocError>
+    fn renew(
+        &mut self,
+        alloc: Global,
+        host: u8,
+        records: &mut Vec<TraceRecord>,
+    ) -> Result<(), AllocError>
         requires day { (d : day.Day) × Stands A.stands self.old d }
         requires few { A.made self.old.core + 3 ≤ most_turns }
         requires host { 1 ≤ host }
@@ -100,7 +122,11 @@ impl<A: Authenticator + Drop> DayMaker<A> {
     }
 
     // Some seconds go by, and each host sends a frame.
-    fn seconds_and_frames(&mut self, alloc: Global, records: &mut Vec<TraceRecord>) -> Result<(), AllocError>
+    fn seconds_and_frames(
+        &mut self,
+        alloc: Global,
+        records: &mut Vec<TraceRecord>,
+    ) -> Result<(), AllocError>
         requires day { (d : day.Day) × Stands A.stands self.old d }
         requires few { A.made self.old.core + 360 ≤ most_turns }
         ensures { OnOk result (Makes A.stands A.made self.old self.new (day.seconds_and_frames self.old.hosts) records.old.items records.new.items) }

@@ -1,12 +1,11 @@
 use Rattle.std.proofs.Common.{◌≡◌, ◌<◌, ℕ, List, true, sym, ap, ◌∙◌, lt-ltb}
-use Rattle.std.specs.Prelude.{Option, Some, None, nat_lt, if◌then◌else◌}
+use Rattle.std.specs.Prelude.{Option, Some, None, nat_lt}
 use Rattle.radius_defs.specs.Packet.{Packet}
 use Rattle.radius_defs.specs.Parsed.{packet_of}
 use Rattle.radius_defs.proofs.ParsedLemmas.{packet-of-some, packet-of-none}
 use Rattle.switch_event.specs.Sent.{ToServer}
-use Rattle.day_defs.specs.declared.Question.{Question}
 use Rattle.day_defs.specs.declared.TheConstants.{SOCKETS}
-use Rattle.day_defs.specs.Server.{About, question_in, server_asked}
+use Rattle.day_defs.specs.Server.{question_in, server_asked}
 use Rattle.day_maker.proofs.hearing.server_asked.Goals as goal
 
 asked_by : (socket : ℕ) (octets : List ℕ) (o : Option Packet) → socket < SOCKETS → packet_of octets ≡ o → question_in socket o ≡ server_asked (ToServer socket octets)

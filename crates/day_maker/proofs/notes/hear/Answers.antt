@@ -1,4 +1,4 @@
-use Rattle.std.proofs.Common.{◌≡◌, ◌++◌, ◌∷◌, [], ℕ, List, length, refl, sym, subst}
+use Rattle.std.proofs.Common.{◌++◌, ◌∷◌, [], length, refl, sym, subst}
 use Rattle.std.specs.Prelude.{None}
 use Rattle.switch_event.specs.declared.sent.Sent.{Sent as SentNow}
 use Rattle.switch_event.specs.declared.sent.Sent.TheVariants.{Reply}

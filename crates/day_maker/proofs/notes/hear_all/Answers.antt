@@ -1,4 +1,4 @@
-use Rattle.std.proofs.Common.{◌≡◌, ◌≤◌, ◌++◌, ℕ, List, length, take, subst, arith}
+use Rattle.std.proofs.Common.{◌≤◌, ◌++◌, List, length, take, subst, arith}
 use Rattle.std.proofs.lemmas.List.{take_all}
 use Rattle.switch_event.specs.Sent.{Sent, sent_of}
 use Rattle.day_maker.specs.Hearing.{Hears}

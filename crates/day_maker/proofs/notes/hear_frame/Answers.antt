@@ -1,6 +1,6 @@
-use Rattle.std.proofs.Common.{◌≡◌, ℕ, List, length, sym, ap, refl}
-use Rattle.std.specs.Prelude.{None, Some}
-use Rattle.switch_event.specs.Sent.{Sent, ToHost}
+use Rattle.std.proofs.Common.{length, sym, refl}
+use Rattle.std.specs.Prelude.{None}
+use Rattle.switch_event.specs.Sent.{ToHost}
 use Rattle.day_defs.specs.Server.{identity_asked}
 use Rattle.day_maker.proofs.Noting.{heard_nothing, about_nobody, about_stranger, heard_identity}
 use Rattle.day_maker.proofs.notes.hear_frame.Goals as goal

@@ -1,10 +1,10 @@
 use Rattle.std.proofs.Common.{◌≡◌, sym, ap, ◌∙◌, ℕ, List, arith}
-use Rattle.std.specs.Prelude.{Some, None, Option, option_map}
+use Rattle.std.specs.Prelude.{Some, option_map}
 use Rattle.switch_event.specs.Event.{Radius}
 use Rattle.day_defs.specs.declared.Question.{Question}
 use Rattle.day_defs.specs.Office.{address_of_host}
 use Rattle.day_defs.specs.Server.{server_asked, last_about, accept_octets}
-use Rattle.day_defs.specs.Day.{Day, Answer, answer_of, control}
+use Rattle.day_defs.specs.Day.{Answer, answer_of, control}
 use Rattle.day_maker.proofs.Coming.{last-socket}
 use Rattle.day_maker.proofs.Making.{on_both, makes-one, makes-nothing}
 use Rattle.day_maker.proofs.maker.DayMaker.answer.Goals as goal

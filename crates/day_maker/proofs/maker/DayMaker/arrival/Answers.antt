@@ -1,7 +1,7 @@
-use Rattle.std.proofs.Common.{◌≡◌, ◌+◌, ℕ, List, [], length, map, ap, subst, arith}
+use Rattle.std.proofs.Common.{ℕ, subst, arith}
 use Rattle.std.specs.List.{flat_map}
 use Rattle.day_defs.specs.Office.{hosts}
-use Rattle.day_defs.specs.Day.{Act, links, log_in, arrival}
+use Rattle.day_defs.specs.Day.{links, log_in, arrival}
 use Rattle.day_defs.proofs.Going.{length-links, length-arrival}
 use Rattle.day_maker.specs.Making.{Makes}
 use Rattle.day_maker.proofs.Making.{on_ok, makes-then}

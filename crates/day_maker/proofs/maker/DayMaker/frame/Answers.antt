@@ -1,5 +1,4 @@
-use Rattle.std.proofs.Common.{◌≡◌, ap, sym, ◌∙◌}
-use Rattle.std.specs.Prelude.{List, ℕ, OnOk}
+use Rattle.std.proofs.Common.{ap, sym, ◌∙◌}
 use Rattle.wire_defs.specs.Ethernet.{is_control}
 use Rattle.day_defs.proofs.Frames.{port-there}
 use Rattle.day_maker.proofs.maker.DayMaker.frame.Goals as goal

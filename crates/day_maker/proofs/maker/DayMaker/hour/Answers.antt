@@ -1,7 +1,7 @@
-use Rattle.std.proofs.Common.{◌≡◌, ◌+◌, ◌*◌, ◌≤◌, ◌∷◌, [], ℕ, refl, subst, sym, arith}
+use Rattle.std.proofs.Common.{◌≡◌, ◌+◌, ◌≤◌, ℕ, subst, arith}
 use Rattle.std.proofs.Math.Nat.{mul-le-mul_left}
 use Rattle.std.specs.List.{flat_map, range_with_len}
-use Rattle.day_defs.specs.Day.{Act, seconds_and_frames, hour}
+use Rattle.day_defs.specs.Day.{seconds_and_frames, hour}
 use Rattle.day_defs.proofs.Going.{length-each, length-seconds_and_frames, length-hour}
 use Rattle.day_maker.specs.Making.{Makes}
 use Rattle.day_maker.proofs.Making.{makes-next, each-more}

@@ -1,7 +1,7 @@
-use Rattle.std.proofs.Common.{◌≡◌, ◌+◌, ◌≤◌, ◌∷◌, [], List, map, ℕ, ap, subst, sym, arith}
+use Rattle.std.proofs.Common.{◌≡◌, ◌+◌, ◌∷◌, [], map, ℕ, subst, arith}
 use Rattle.std.specs.List.{range_with_len}
 use Rattle.std.proofs.lemmas.List.FromFn.{map-range_with_len_more, length-map-range_with_len}
-use Rattle.day_defs.specs.Day.{Act, LinkUp, links}
+use Rattle.day_defs.specs.Day.{LinkUp, links}
 use Rattle.day_maker.specs.Making.{Makes}
 use Rattle.day_maker.proofs.Making.{makes-next}
 use Rattle.day_maker.proofs.maker.DayMaker.links_up.Goals as goal

@@ -1,8 +1,6 @@
-use Rattle.std.proofs.Common.{◌≡◌, ◌+◌, ◌*◌, ◌≤◌, ◌∷◌, [], ℕ, refl, subst, sym, arith}
-use Rattle.std.specs.List.{flat_map, range_with_len}
-use Rattle.day_defs.specs.Day.{Act, log_in}
+use Rattle.std.proofs.Common.{◌+◌, refl, arith}
+use Rattle.day_defs.specs.Day.{log_in}
 use Rattle.day_defs.proofs.Going.{length-each}
-use Rattle.day_maker.specs.Making.{Makes}
 use Rattle.day_maker.proofs.Making.{makes-next, each-more}
 use Rattle.day_maker.proofs.maker.DayMaker.log_in_all.Goals as goal
 

@@ -1,6 +1,6 @@
-use Rattle.std.proofs.Common.{◌≡◌, ◌+◌, ◌*◌, ◌≤◌, ◌∷◌, [], ℕ, refl, subst, sym, arith}
+use Rattle.std.proofs.Common.{◌≡◌, ◌+◌, ℕ, refl, subst, arith}
 use Rattle.std.specs.List.{flat_map, range_with_len}
-use Rattle.day_defs.specs.Day.{Act, renew, renewal}
+use Rattle.day_defs.specs.Day.{renew, renewal}
 use Rattle.day_defs.proofs.Going.{length-each, length-renewal}
 use Rattle.day_maker.specs.Making.{Makes}
 use Rattle.day_maker.proofs.Making.{makes-next, each-more}

@@ -1,5 +1,5 @@
 use Rattle.std.proofs.Common.{◌≡◌, sym, ap, ◌∙◌, ℕ, List}
-use Rattle.std.specs.Prelude.{Some, None, option_map}
+use Rattle.std.specs.Prelude.{Some, option_map}
 use Rattle.day_defs.specs.Office.{response_frame}
 use Rattle.day_defs.specs.Day.{Respond, frame_of}
 use Rattle.day_maker.proofs.Making.{on_both, makes-one, makes-nothing}

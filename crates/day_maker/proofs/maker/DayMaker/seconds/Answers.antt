@@ -1,6 +1,6 @@
-use Rattle.std.proofs.Common.{◌≡◌, ◌+◌, ◌∷◌, [], ℕ, replicate, subst, sym, arith}
-use Rattle.std.proofs.lemmas.List.{replicate_more, length-replicate}
-use Rattle.day_defs.specs.Day.{Act, Second, seconds}
+use Rattle.std.proofs.Common.{◌≡◌, ◌∷◌, [], ℕ, replicate, subst, sym, arith}
+use Rattle.std.proofs.lemmas.List.{replicate_more}
+use Rattle.day_defs.specs.Day.{Second, seconds}
 use Rattle.day_maker.specs.Making.{Makes}
 use Rattle.day_maker.proofs.Making.{makes-next}
 use Rattle.day_maker.proofs.maker.DayMaker.seconds.Goals as goal

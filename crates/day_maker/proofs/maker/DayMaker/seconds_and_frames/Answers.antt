@@ -1,4 +1,4 @@
-use Rattle.std.proofs.Common.{◌≡◌, ℕ, map, ap, subst}
+use Rattle.std.proofs.Common.{ℕ, map, subst}
 use Rattle.day_defs.specs.Office.{hosts}
 use Rattle.day_defs.specs.Day.{Send, seconds}
 use Rattle.day_maker.specs.Making.{Makes}

@@ -1,4 +1,4 @@
-use Rattle.std.proofs.Common.{◌≡◌, refl, sym, ap, ◌∙◌, ℕ, List}
+use Rattle.std.proofs.Common.{◌≡◌, sym, ap, ◌∙◌, ℕ, List}
 use Rattle.std.specs.Prelude.{Some}
 use Rattle.day_defs.specs.Office.{start_frame}
 use Rattle.day_defs.specs.Day.{Start, frame_of}
