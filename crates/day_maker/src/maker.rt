@@ -14,6 +14,7 @@ use crate::accept::accept;
 use crate::frames::{data_frame, port_of_host, response_frame, start_frame};
 use crate::notes::{Note, blank_notes, hear_all};
 use arrayvec::ArrayVec;
+use auth_table::Item;
 use authenticator::Authenticator;
 use event_record::{Octets, Record};
 use out_tray::Tray;
@@ -34,6 +35,8 @@ pub struct DayMaker<A> {
     pub(crate) core: A,
     /// What its last turn sent.
     pub(crate) tray: Tray,
+    /// What its last turn changed for those that forward frames.
+    pub(crate) items: Box<ArrayVec<Item, 1024>>,
     /// What was heard last for each host, in the order of their numbers.
     pub(crate) notes: Vec<Note>,
     /// How many hosts there are.
@@ -51,6 +54,7 @@ impl<A: Authenticator + Drop> DayMaker<A> {
         Ok(DayMaker {
             core: A::open(alloc, config)?,
             tray: Tray::open(alloc, SESSIONS)?,
+            items: Box::new(alloc, ArrayVec::new())?,
             notes: blank_notes(alloc, hosts)?,
             hosts,
         })
@@ -222,6 +226,8 @@ impl<A: Authenticator + Drop> DayMaker<A> {
         ensures hosts { self.new.hosts ≡ self.old.hosts }
         ensures turns { A.made self.new.core ≡ A.made self.old.core + 1 }
     {
-        let (_outcome, _change) = self.core.turn(&what.event(), &mut self.tray);
+        let _outcome = self
+            .core
+            .turn(&what.event(), &mut self.tray, &mut self.items);
     }
 }
