@@ -1,13 +1,15 @@
 -- How a day goes on: what is done first, and then what is done next; and how much is done.
-use Rattle.std.proofs.Common.{◌≡◌, ℕ, zero, suc, ◌+◌, ◌*◌, List, [], ◌∷◌, ◌++◌, length, map, refl, ap, ◌∙◌, arith, length-append}
+use Rattle.std.proofs.Common.{◌≡◌, ℕ, zero, suc, ◌+◌, ◌*◌, ◌≤◌, List, [], ◌∷◌, ◌++◌, length, map, refl, ap, ◌∙◌, arith, length-append}
 use Rattle.std.specs.Prelude.{Option, Some, None}
 use Rattle.std.specs.List.{flat_map, range_with_len}
 use Rattle.std.proofs.lemmas.List.{length-map}
 use Rattle.std.proofs.lemmas.List.FromFn.{length-range_with_len}
 use Rattle.trace_defs.specs.Line.{Record}
-use Rattle.day_defs.specs.declared.TheConstants.{FRAMES_AN_HOUR}
+use Rattle.day_defs.specs.declared.Phase.{Phase}
+use Rattle.day_defs.specs.declared.Phase.TheVariants.{Arrival, Hour, Renewal}
+use Rattle.day_defs.specs.declared.TheConstants.{MOST_HOSTS, FRAMES_AN_HOUR}
 use Rattle.day_defs.specs.Office.{hosts}
-use Rattle.day_defs.specs.Day.{Act, Send, Day, record_of, after_act, after_acts, with_record, recorded, links, log_in, renew, arrival, seconds, seconds_and_frames, hour, renewal}
+use Rattle.day_defs.specs.Day.{Act, Send, Day, record_of, after_act, after_acts, with_record, recorded, links, log_in, renew, arrival, seconds, seconds_and_frames, hour, renewal, acts_of}
 
 -- ---- one after another
 
@@ -61,3 +63,18 @@ length-hour n =
 pub length-renewal : (n : ℕ) → length (renewal n) ≡ 3 * n
 unfolding renewal
 length-renewal n = length-each renew 3 (λ h. refl) 1 n
+
+pub length-acts : (n : ℕ) (which : Phase) → n ≤ MOST_HOSTS → length (acts_of n which) ≤ 6000
+length-acts n Arrival few = omega (arith, length-arrival n)
+length-acts n Hour few = omega (arith, length-hour n)
+length-acts n Renewal few = omega (arith, length-renewal n)
+
+-- ---- records are no more than what is done
+
+pub recorded-few : (d : Day) (acts : List Act) → length (recorded d acts) ≤ length acts
+recorded-few d [] = omega arith
+recorded-few d (a ∷ rest) = with_one (record_of d.sent a) (recorded (after_act d a) rest) (length rest) (recorded-few (after_act d a) rest)
+  where
+    with_one : (o : Option Record) (records : List Record) (n : ℕ) → length records ≤ n → length (with_record o records) ≤ suc n
+    with_one None records n few = omega arith
+    with_one (Some r) records n few = omega arith

@@ -11,6 +11,8 @@ use Rattle.switch_defs.specs.Turn.{turn}
 use Rattle.day_defs.specs.declared.TheConstants.{HOURS, FRAMES_AN_HOUR, SECONDS_A_FRAME}
 use Rattle.day_defs.specs.Office.{settings, ports, hosts, port_of_host, address_of_host, start_frame, response_frame, data_frame}
 use Rattle.day_defs.specs.declared.Question.{Question}
+use Rattle.day_defs.specs.declared.Phase.{Phase}
+use Rattle.day_defs.specs.declared.Phase.TheVariants.{Arrival, Hour, Renewal}
 use Rattle.day_defs.specs.Server.{identity_asked, server_asked, last_about, accept_octets}
 
 -- one thing that is done: the link of a port comes up; a host starts; it gives its identity; the server answers for it; a second goes
@@ -56,9 +58,15 @@ hour n = flat_map (λ part. seconds_and_frames n) (range_with_len 0 FRAMES_AN_HO
 unfoldable pub renewal : ℕ → List Act
 renewal n = flat_map renew (hosts n)
 
--- the phases of a day with so many hosts
-abbrev pub phases : ℕ → List (List Act)
-phases n = arrival n ∷ flat_map (λ which. hour n ∷ renewal n ∷ []) (range_with_len 0 HOURS)
+-- what is done in a phase
+abbrev pub acts_of : ℕ → Phase → List Act
+acts_of n Arrival = arrival n
+acts_of n Hour = hour n
+acts_of n Renewal = renewal n
+
+-- the phases of a day: each hour, and then everybody logs in again
+abbrev pub phases : List Phase
+phases = Arrival ∷ flat_map (λ which. Hour ∷ Renewal ∷ []) (range_with_len 0 HOURS)
 
 -- ---- what is recorded
 
@@ -117,10 +125,11 @@ abbrev pub recorded : Day → List Act → List Record
 recorded d [] = []
 recorded d (a ∷ rest) = with_record (record_of d.sent a) (recorded (after_act d a) rest)
 
-abbrev pub phases_from : Day → List (List Act) → List (List Record)
-phases_from d [] = []
-phases_from d (acts ∷ rest) = recorded d acts ∷ phases_from (after_acts d acts) rest
+-- and of some phases with so many hosts
+abbrev pub recorded_phases : (hosts : ℕ) → Day → List Phase → List (List Record)
+recorded_phases n d [] = []
+recorded_phases n d (which ∷ rest) = recorded d (acts_of n which) ∷ recorded_phases n (after_acts d (acts_of n which)) rest
 
 -- the records of a day with so many hosts, in phases
-abbrev pub recorded_day : ℕ → List (List Record)
-recorded_day n = phases_from dawn (phases n)
+unfoldable pub recorded_day : (hosts : ℕ) → List (List Record)
+recorded_day n = recorded_phases n dawn phases

@@ -32,3 +32,14 @@ pub struct Question {
     /// The identifier of the EAP Response that the request carries (RFC 3748, 4.1).
     pub response: u8,
 }
+
+/// A phase of the day: what is done before everybody waits for all of it.
+#[derive(Clone, Copy, Debug, PartialEq, Eq)]
+pub enum Phase {
+    /// The links of all ports come up, and the hosts log in, one after another.
+    Arrival,
+    /// An hour goes by, in which each host sends ten frames.
+    Hour,
+    /// The hosts, which are asked again, log in again, one after another, and each sends a frame.
+    Renewal,
+}

@@ -13,9 +13,11 @@ use Rattle.authenticator.specs.Meaning.{IsEvent}
 use Rattle.trace_defs.specs.Line.{Record}
 use Rattle.trace_defs.specs.Line.Record.{Control, Data}
 use Rattle.day_defs.specs.declared.Question.{Question}
+use Rattle.day_defs.specs.declared.Phase.{Phase}
+use Rattle.day_defs.specs.declared.Phase.TheVariants.{Arrival, Hour, Renewal}
 use Rattle.day_defs.specs.declared.TheConstants.{SOCKETS}
 use Rattle.day_defs.specs.Office.{settings, hosts, port_of_host, address_of_host, response_frame}
-use Rattle.day_defs.specs.Day.{Act, LinkUp, Start, Respond, Answer, Second, Send, Day, frame_of, answer_of, record_of, after_act, with_record, recorded, links, log_in, renew, arrival, seconds, seconds_and_frames, hour, renewal}
+use Rattle.day_defs.specs.Day.{Act, LinkUp, Start, Respond, Answer, Second, Send, Day, frame_of, answer_of, record_of, after_act, with_record, recorded, links, log_in, renew, arrival, seconds, seconds_and_frames, hour, renewal, acts_of}
 use Rattle.day_defs.proofs.Frames.{port-there, start-control, response-control}
 use Rattle.day_defs.specs.Server.{identity_asked, host_named, question_in, question_of, server_asked, for_host, last_about}
 
@@ -123,7 +125,7 @@ links_are : AllByRecursion IsAct links
 unfolding links
 links_are = each_one LinkUp 1 60 61 (omega arith) (λ h least most. (least, omega arith))
 
-pub arrival-acts : (n : ℕ) → n < 256 → AllByRecursion IsAct (arrival n)
+arrival-acts : (n : ℕ) → n < 256 → AllByRecursion IsAct (arrival n)
 unfolding arrival
 arrival-acts n small = both links (flat_map log_in (hosts n)) links_are (each log_in 1 n 256 (omega arith) (λ h s. (s, (s, (s, tt)))))
 
@@ -134,10 +136,15 @@ seconds_are = repeated 360
 part_are : (n : ℕ) → n < 256 → AllByRecursion IsAct (seconds_and_frames n)
 part_are n small = both seconds (map Send (hosts n)) seconds_are (each_one Send 1 n 256 (omega arith) (λ h least most. most))
 
-pub hour-acts : (n : ℕ) → n < 256 → AllByRecursion IsAct (hour n)
+hour-acts : (n : ℕ) → n < 256 → AllByRecursion IsAct (hour n)
 unfolding hour
 hour-acts n small = each (λ part. seconds_and_frames n) 0 10 10 (omega arith) (λ part s. part_are n small)
 
-pub renewal-acts : (n : ℕ) → n < 256 → AllByRecursion IsAct (renewal n)
+renewal-acts : (n : ℕ) → n < 256 → AllByRecursion IsAct (renewal n)
 unfolding renewal
 renewal-acts n small = each renew 1 n 256 (omega arith) (λ h s. (s, (s, (s, tt))))
+
+pub phase-acts : (n : ℕ) (which : Phase) → n < 256 → AllByRecursion IsAct (acts_of n which)
+phase-acts n Arrival small = arrival-acts n small
+phase-acts n Hour small = hour-acts n small
+phase-acts n Renewal small = renewal-acts n small

@@ -8,19 +8,32 @@ ghost use Rattle.day_maker.specs.Making.{Stands, Makes};
 
 use crate::maker::DayMaker;
 use authenticator::Authenticator;
-use day_defs::{FRAMES_AN_HOUR, PORTS, SECONDS_A_FRAME};
+use day_defs::{FRAMES_AN_HOUR, PORTS, Phase, SECONDS_A_FRAME};
 use std::alloc::{AllocError, Global};
 use trace_record::TraceRecord;
 
 impl<A: Authenticator + Drop> DayMaker<A> {
-    /// Adds the records of the first phase: the links of all ports come up, and the hosts log in, one
-    /// after another. There must be room for them in a history. `AllocError`: there is no memory; then
-    /// the maker is not used again.
-    pub fn arrival(
+    /// Adds the records of a phase. There must be room for them in a history. `AllocError`: there is
+    /// no memory; then the maker is not used again.
+    pub fn phase(
         &mut self,
         alloc: Global,
+        which: Phase,
         records: &mut Vec<TraceRecord>,
     ) -> Result<(), AllocError>
+        requires day { (d : day.Day) × Stands A.stands self.old d }
+        requires few { A.made self.old.core + length (day.acts_of self.old.hosts which) ≤ most_turns }
+        ensures { OnOk result (Makes A.stands A.made self.old self.new (day.acts_of self.old.hosts which) records.old.items records.new.items) }
+    {
+        match which {
+            Phase::Arrival => self.arrival(alloc, records),
+            Phase::Hour => self.hour(alloc, records),
+            Phase::Renewal => self.renewal(alloc, records),
+        }
+    }
+
+    // The links of all ports come up, and the hosts log in.
+    fn arrival(&mut self, alloc: Global, records: &mut Vec<TraceRecord>) -> Result<(), AllocError>
         requires day { (d : day.Day) × Stands A.stands self.old d }
         requires few { A.made self.old.core + length (day.arrival self.old.hosts) ≤ most_turns }
         ensures { OnOk result (Makes A.stands A.made self.old self.new (day.arrival self.old.hosts) records.old.items records.new.items) }
@@ -29,9 +42,8 @@ impl<A: Authenticator + Drop> DayMaker<A> {
         self.log_in_all(alloc, records)
     }
 
-    /// Adds the records of an hour: 3,600 seconds, and ten times in between a frame of each host.
-    /// Otherwise as [`DayMaker::arrival`].
-    pub fn hour(&mut self, alloc: Global, records: &mut Vec<TraceRecord>) -> Result<(), AllocError>
+    // An hour goes by.
+    fn hour(&mut self, alloc: Global, records: &mut Vec<TraceRecord>) -> Result<(), AllocError>
         requires day { (d : day.Day) × Stands A.stands self.old d }
         requires few { A.made self.old.core + length (day.hour self.old.hosts) ≤ most_turns }
         ensures { OnOk result (Makes A.stands A.made self.old self.new (day.hour self.old.hosts) records.old.items records.new.items) }
@@ -42,13 +54,8 @@ impl<A: Authenticator + Drop> DayMaker<A> {
         Ok(())
     }
 
-    /// Adds the records in which the hosts log in again, one after another, and each sends a frame.
-    /// Otherwise as [`DayMaker::arrival`].
-    pub fn renewal(
-        &mut self,
-        alloc: Global,
-        records: &mut Vec<TraceRecord>,
-    ) -> Result<(), AllocError>
+    // The hosts log in again, and each sends a frame.
+    fn renewal(&mut self, alloc: Global, records: &mut Vec<TraceRecord>) -> Result<(), AllocError>
         requires day { (d : day.Day) × Stands A.stands self.old d }
         requires few { A.made self.old.core + length (day.renewal self.old.hosts) ≤ most_turns }
         ensures { OnOk result (Makes A.stands A.made self.old self.new (day.renewal self.old.hosts) records.old.items records.new.items) }
