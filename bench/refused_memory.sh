@@ -1,10 +1,13 @@
 #!/usr/bin/env bash
-# Refuses memory to a run over a short trace of three phases, in two ways, and says how the runs ended.
+# Refuses memory to a run over a short trace of three phases, in each way that there is, and says how the runs ended.
 # Usage: bench/refused_memory.sh [WORDS [FIRST LAST]], with the program's words, else "replay"; build the program first (`rt run` in
-# crates/switch_run).
-# First the built program gets less memory than it wants: from 2 MB to 512 MB of addresses, in steps of 256 KB, a minute in all.
-# Then, where FIRST and LAST are given, the allocations of these numbers are refused, one in each run of `rt try --fail-alloc`, which
-# builds the program anew each time, half a minute.
+# crates/switch_run). It needs a C compiler, and takes two minutes.
+#   one      each request for memory in turn is refused to the built program, and the later ones are not (a few lines of C that stand
+#            before the C library's calls)
+#   all      each and all later ones are refused
+#   limits   the program gets less memory than it wants: from 2 MB to 512 MB of addresses, in steps of 256 KB
+#   tried    where FIRST and LAST are given: the allocations of these numbers, one in each run of `rt try --fail-alloc`, which
+#            builds the program anew each time, half a minute
 # Each run has to end with 1, `out of memory` and the blocks of whole phases, or as if nothing were refused, or with 2 and nothing
 # written, where the words themselves were not to be had. A limit of addresses counts the stack too, which is no allocation: at a
 # limit that leaves just too little for it, the host ends the run.
@@ -12,7 +15,7 @@ set -eu
 cd "$(dirname "$0")/.."
 words=${1:-replay}
 trace=$PWD/data/races/a_disconnect_beside_data_frames.trace
-program=crates/switch_run/out/switch_run
+program=$PWD/crates/switch_run/out/switch_run
 [ -x "$program" ] || { echo "build the program first: (cd crates/switch_run && rt run)" >&2; exit 1; }
 work=$(mktemp -d)
 trap 'rm -rf "$work"' EXIT
@@ -37,29 +40,72 @@ phases() {
 
 # How a run with this status ended.
 ending() {
-    case "$1 $(phases)" in
-        "0 3") echo "whole" ;;
-        "1 "[0-3]) echo "out of memory behind $(phases) phases" ;;
-        "2 0") echo "usage, with nothing written" ;;
-        "127 0") echo "not begun: no room for the program" ;;
-        "139 0") echo "ended by the host: no room for the stack" ;;
-        *) echo "WRONG: status $1, $(wc -l < "$work/out") lines" ;;
+    case "$1 $(phases) $(head -c 20 "$work/err" | tr -c '[:lower:]' ' ' | xargs)" in
+        "0 3 ") echo "whole" ;;
+        "1 "[0-3]" out of memory") echo "out of memory behind $(phases) phases" ;;
+        "2 0 usage") echo "usage, with nothing written" ;;
+        "127 0 "*) echo "not begun: no room for the program" ;;
+        "139 0 ") echo "ended by the host: no room for the stack" ;;
+        *) echo "WRONG: status $1, $(wc -l < "$work/out") lines, $(head -c 80 "$work/err")" ;;
     esac
 }
 
-for ((limit = 2048; limit <= 524288; limit += 256)); do
-    status=0
+# The program in the state of the shell, and how it ended.
+run() {
+    local status=0
     # shellcheck disable=SC2086
-    (ulimit -v "$limit"; exec "$program" $words < "$trace" > "$work/out" 2> "$work/err") || status=$?
+    ("$@"; exec "$program" $words < "$trace" > "$work/out" 2> "$work/err") || status=$?
     ending "$status"
-done 2> "$work/shell" | uniq -c | tee "$work/limits"
+}
 
+cat > "$work/refuse.c" <<'CODE'
+#define _GNU_SOURCE
+#include <dlfcn.h>
+#include <errno.h>
+#include <stdatomic.h>
+#include <stdlib.h>
+
+/* Whether this request is to be refused: the one of the number FIRST, or with LAST also those behind it. */
+static int refused(void) {
+    static atomic_long asked;
+    const char *first = getenv("FIRST"), *last = getenv("LAST");
+    long number = atomic_fetch_add(&asked, 1) + 1;
+    return first && number >= atol(first) && number <= atol(last);
+}
+
+#define REFUSE(answer) do { if (refused()) { errno = ENOMEM; return answer; } } while (0)
+#define NEXT(name) ((__typeof__(&name)) dlsym(RTLD_NEXT, #name))
+
+void *malloc(size_t size) { REFUSE(NULL); return NEXT(malloc)(size); }
+void *realloc(void *old, size_t size) { REFUSE(NULL); return NEXT(realloc)(old, size); }
+void *aligned_alloc(size_t to, size_t size) { REFUSE(NULL); return NEXT(aligned_alloc)(to, size); }
+int posix_memalign(void **out, size_t to, size_t size) { REFUSE(ENOMEM); return NEXT(posix_memalign)(out, to, size); }
+CODE
+${CC:-cc} -O1 -shared -fPIC -o "$work/refuse.so" "$work/refuse.c" -ldl
+
+refuse() { export LD_PRELOAD="$work/refuse.so" FIRST="$1" LAST="$2"; }
+
+# One at a time, until twenty in a row are whole: then no run asks so often.
+whole=0
+for ((n = 1; whole < 20; n++)); do
+    how=$(run refuse "$n" "$n")
+    whole=$([ "$how" = whole ] && echo $((whole + 1)) || echo 0)
+    echo "one: $how"
+done | uniq -c | tee "$work/one"
+asked=$(awk '{ sum += $1 } END { print sum - 20 }' "$work/one")
+for ((n = 1; n <= asked; n++)); do
+    echo "all: $(run refuse "$n" 999999)"
+done | uniq -c | tee "$work/all"
+for ((limit = 2048; limit <= 524288; limit += 256)); do
+    echo "limits: $(run ulimit -v "$limit")"
+done 2> "$work/shell" | uniq -c | tee "$work/limits"
 if [ $# = 3 ]; then
     for ((n = $2; n <= $3; n++)); do
         status=0
         # shellcheck disable=SC2086
-        (cd crates/switch_run && rt try --fail-alloc "$n" -- $words < "$trace" > "$work/out" 2> "$work/err") || status=$?
-        echo "allocation $n: $(ending "$status")"
-    done | tee "$work/numbers"
+        (cd crates/switch_run && rt try --fail-alloc "$n" -- $words < "$trace" > "$work/out" 2> "$work/said") || status=$?
+        grep -x 'usage\|out of memory' "$work/said" > "$work/err" || true
+        echo "tried: allocation $n: $(ending "$status")"
+    done | tee "$work/tried"
 fi
-! grep -q WRONG "$work"/limits "$work"/numbers 2> "$work/shell"
+! grep -h WRONG "$work"/one "$work"/all "$work"/limits "$work"/tried 2> "$work/shell"
