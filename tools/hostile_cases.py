@@ -104,8 +104,6 @@ class Challenge(Answer):
 class Dynamic(Kind):
     """A dynamic request for a host that is let in."""
 
-    serial = 0
-
     def ready(self, script):
         ACCEPT.ready(script)
         ACCEPT.give(script, ACCEPT.make(script))
