@@ -1,0 +1,4 @@
+pub mod Appended
+pub mod Cuts
+pub mod LogBack
+mod Worked

@@ -1,0 +1,5 @@
+pub mod Settings
+pub mod Log
+pub mod Served
+pub mod Posted
+pub mod Laws
