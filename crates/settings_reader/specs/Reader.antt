@@ -1,14 +1,19 @@
 -- How far a reader of settings is.
-use Rattle.std.specs.Prelude.{◌≡◌, ⊤, ℕ, ◌+◌, Bool, true, false, List, [], ◌∷◌, ◌++◌, Result, Ok, Err}
-use Rattle.switch_event.specs.Config.{empty}
-use Rattle.trace_defs.specs.Alike.{ReadAlike}
+use Rattle.std.specs.Prelude.{◌≡◌, ⊤, ℕ, ◌+◌, Bool, true, false, List, [], ◌∷◌, ◌++◌, Option, Result, Ok, Err}
+use Rattle.switch_event.specs.Config.{Config, empty, are_ports}
+use Rattle.trace_defs.specs.Alike.{ReadAlike, all_lines}
 use Rattle.trace_defs.specs.Reading.{HasRead}
-use Rattle.trace_defs.specs.Trace.{Progress, after_line, start}
+use Rattle.trace_defs.specs.Trace.{Progress, Reading, after_line, progress_of, reason_of, start}
 use Rattle.trace_defs.specs.Trace.Stop.{Refused as IsRefused}
+use Rattle.serve_defs.specs.Settings.{settle, settings_fate_of}
 use Rattle.settings_reader.specs.declared.reader.Reader.{Reader}
 use Rattle.settings_reader.specs.declared.settings_err.SettingsErr.{SettingsErr}
 use Rattle.settings_reader.specs.declared.settings_err.SettingsErr.TheVariants.{NoMemory, Refused, ReadFault, TooLong}
-use Rattle.settings_reader.specs.Settings.{EndsSettings}
+use Rattle.settings_reader.specs.Settings.{EndsSettings, SettingsEnd}
+
+-- what holds of every reader: no port is configured twice, and each is in range
+abbrev pub IsSound : Reader → Type 0
+IsSound reader = are_ports reader.config.ports ≡ true
 
 -- a reader was given these octets, which have not ended the settings
 pub record IsAt (reader : Reader) (given : List ℕ) : Type 0 where
@@ -63,7 +68,25 @@ TakesOctet octet old new (Err (Refused line why)) =
 TakesOctet octet old new (Err NoMemory) = ⊤
 TakesOctet octet old new (Err e) = ⊥
 
--- the text ends here, and its last line ends the settings, is refused, or another is missing behind it
-pub record IsMissing (given : List ℕ) (line : ℕ) : Type 0 where
-  pub p : Progress
-  pub line_is : line ≡ p.lines + 1
+-- how the lines of a text are read where no more octets follow
+abbrev pub settled_at_end : List ℕ → Reading
+settled_at_end given = settle (start empty) (all_lines given)
+
+-- a line is refused, or another one is missing, where the text ends here
+pub record EndsRefused (given : List ℕ) (line why : ℕ) : Type 0 where
+  pub fated : settings_fate_of true (settled_at_end given) ≡ 3
+  pub line_is : line ≡ (progress_of (settled_at_end given)).lines + 1
+  pub why_is : why ≡ reason_of (settled_at_end given)
+
+-- the text ends here: its last line ends the settings, or is refused, or another one is missing behind it
+abbrev pub EndsText : (old new : Reader) → Result ⊤ SettingsErr → Type 0
+EndsText old new (Ok done) = (given : List ℕ) → IsAt old given → IsSettled given [] new
+EndsText old new (Err (Refused line why)) = (given : List ℕ) → IsAt old given → EndsRefused given line why
+EndsText old new (Err NoMemory) = ⊤
+EndsText old new (Err e) = ⊥
+
+-- how the reader of a source ends, where it holds these settings then
+abbrev pub IsTaken : ℕ → (left left_new : Option (List ℕ)) → Config → Result ⊤ SettingsErr
+    → Type 0
+IsTaken limit left left_new config (Ok done) = SettingsEnd limit left left_new (Ok config)
+IsTaken limit left left_new config (Err e) = SettingsEnd limit left left_new (Err e)

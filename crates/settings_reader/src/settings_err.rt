@@ -1,4 +1,7 @@
 // Why there are no settings.
+ghost use Rattle.std.specs.Prelude.{◌≡◌};
+ghost use Rattle.settings_reader.specs.declared.settings_err.SettingsErr.TheVariants.{NoMemory};
+
 use std::alloc::AllocError;
 
 /// Why a source gave no settings.
@@ -21,8 +24,6 @@ pub enum SettingsErr {
 }
 
 impl From<AllocError> for SettingsErr {
-    ghost use Rattle.settings_reader.specs.declared.settings_err.SettingsErr.TheVariants.{NoMemory};
-
     ghost from_gives = { λ _ e. e ≡ NoMemory };
 
     fn from(_: AllocError) -> Self {
