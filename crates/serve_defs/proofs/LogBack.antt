@@ -6,7 +6,7 @@ use Rattle.std.proofs.lemmas.Bool.{and_parts}
 use Rattle.std.proofs.lemmas.Bool.Decides.{nat_tests}
 use Rattle.wire_defs.specs.Text.{ended_lines, ended_after, open_line, words}
 use Rattle.wire_defs.proofs.TextLemmas.{open_line-append}
-use Rattle.switch_event.specs.Config.{Config, empty}
+use Rattle.switch_event.specs.Config.{Config, empty, is_valid}
 use Rattle.trace_defs.specs.declared.given.TheConstants.{SERVER}
 use Rattle.trace_defs.specs.Line.{Record, all_given, was_given, is_comment, words_line, line_of}
 use Rattle.trace_defs.specs.Line.Line.{Blank, Entry}
@@ -18,7 +18,7 @@ use Rattle.trace_defs.specs.Trace.Reading.{Going}
 use Rattle.trace_defs.proofs.TextLines.{is_no_feed, ended_lines-line}
 use Rattle.trace_defs.proofs.RecordBack.{record_back}
 use Rattle.trace_defs.proofs.LineFacts.{Gives-at, IsAfter, line_of-after}
-use Rattle.trace_defs.proofs.SettingFacts.{IsRead}
+use Rattle.trace_defs.proofs.SettingFacts.{IsRead, IsRead-valid}
 use Rattle.trace_defs.proofs.TraceFacts.{AreRecords, controls_in, reading_sound}
 use Rattle.trace_defs.proofs.TextBack.{closed-append, trace_text-closed, counted_lines-closed}
 use Rattle.trace_defs.proofs.ConfigBack.{config_text-back}
@@ -26,7 +26,7 @@ use Rattle.trace_defs.proofs.ReadsBack.{behind}
 use Rattle.history_defs.specs.Output.{Place, block, first_place, next_place}
 use Rattle.history_defs.specs.Output as output
 use Rattle.serve_defs.specs.Log.{comment_line, commented, logged, all_logged, log}
-use Rattle.serve_defs.specs.Laws.{IsWritten, LogsAreTraces}
+use Rattle.serve_defs.specs.Laws.{AreSettings, IsWritten, LogsAreTraces, ReadsBack}
 
 -- ---- comments
 
@@ -204,10 +204,10 @@ at_moment config given moment fits h = record {
 within : (n limit : ℕ) → n ≤ limit → leb n limit ≡ true
 within n limit h = grind (arith, nat_tests)
 
-pub logs_read_back : LogsAreTraces
-logs_read_back limit room c rs settings written few fits =
+-- the log of records that lines can write is a trace
+pub log_back : (c : Config) (rs : List Record) → AreSettings c → AreRecords c rs → ReadsBack c rs
+log_back c rs settings hs limit room few fits =
     let h = reading_sound settings.room settings.lines settings.p settings.reads in
-    let hs = are_records c rs written in
     let read : IsRead c settings.p.given = subst (λ x. IsRead x settings.p.given) (sym settings.same) (at_moment settings.p.config settings.p.given c.clock settings.moment h.read) in
     let counts : controls_in rs ≤ room = subst (λ n. n ≤ room) (sym (same_controls rs)) few in
     let is : trace_of limit room empty (log c rs) ≡ Going (behind c (length (config_lines c) + lines_logged (first_place c) rs) (controls_in rs) [] rs) =
@@ -218,3 +218,13 @@ logs_read_back limit room c rs settings written few fits =
       settings = ap (λ r. (progress_of r).config) is;
       phases = ap₂ whole_of (within (length (log c rs)) limit fits) is;
     }
+
+pub logs_read_back : LogsAreTraces
+logs_read_back c rs settings written = log_back c rs settings (are_records c rs written)
+
+-- settings that lines can write, from another moment on, are valid
+pub settings_valid : (c : Config) → AreSettings c → is_valid c ≡ true
+settings_valid c settings =
+    let h = reading_sound settings.room settings.lines settings.p settings.reads in
+    subst (λ x. is_valid x ≡ true) (sym settings.same)
+    (IsRead-valid (record settings.p.config { clock = c.clock }) settings.p.given (at_moment settings.p.config settings.p.given c.clock settings.moment h.read) (h.begun settings.begun))

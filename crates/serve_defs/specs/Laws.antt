@@ -31,8 +31,13 @@ pub record IsTraceOf (limit room : ℕ) (c : Config) (rs : List Record) (text : 
   pub settings : (progress_of (trace_of limit room empty text)).config ≡ c
   pub phases : whole limit room empty text ≡ rs ∷ []
 
--- so a run of the log writes the blocks that the log shows as comments
+-- the log of these settings and records is a trace of them: so a run of it writes the blocks that it
+-- shows as comments
+abbrev pub ReadsBack : Config → List Record → Type 0
+ReadsBack c rs = (limit room : ℕ) → controls_in rs ≤ room → length (log c rs) ≤ limit →
+    IsTraceOf limit room c rs (log c rs)
+
+-- that is so where lines can write the settings and the records
 abbrev pub LogsAreTraces : Type 0
-LogsAreTraces = (limit room : ℕ) (c : Config) (rs : List Record) →
-    AreSettings c → AllByRecursion (IsWritten c) rs →
-    controls_in rs ≤ room → length (log c rs) ≤ limit → IsTraceOf limit room c rs (log c rs)
+LogsAreTraces = (c : Config) (rs : List Record) →
+    AreSettings c → AllByRecursion (IsWritten c) rs → ReadsBack c rs

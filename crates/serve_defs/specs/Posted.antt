@@ -3,7 +3,7 @@ use Rattle.std.specs.Prelude.{ℕ, zero, suc, ◌+◌, ◌==◌, nat_lt, if◌th
 use Rattle.std.specs.List.{flat_map}
 use Rattle.wire_core.specs.declared.address.Addr.{Addr}
 use Rattle.switch_event.specs.Config.{Config}
-use Rattle.switch_event.specs.Event.{Frame, Radius, Dynamic, Second, Link, SetControl}
+use Rattle.switch_event.specs.Event.{Frame}
 use Rattle.switch_event.specs.Sent.{Sent, ToHost, ToServer, ToClient}
 use Rattle.switch_defs.specs.Turn.{turn}
 use Rattle.trace_defs.specs.Line.{Record}
@@ -24,22 +24,19 @@ abbrev pub home_of : (port : ℕ) → List Home → Option Addr
 home_of port [] = None
 home_of port (home ∷ rest) = if home.port == port then Some home.at else home_of port rest
 
-abbrev pub with_home : (port : ℕ) → Option Addr → List Home → List Home
-with_home port None homes = homes
-with_home port (Some at) homes = record { port = port; at = at } ∷ homes
+-- the port on which a frame came
+abbrev pub frame_port : Record → Option ℕ
+frame_port (Data port octets) = Some port
+frame_port (Control lane (Frame port octets)) = Some port
+frame_port other = None
+
+abbrev pub with_home : (port : Option ℕ) → Option Addr → List Home → List Home
+with_home (Some port) (Some at) homes = record { port = port; at = at } ∷ homes
+with_home port at homes = homes
 
 -- a datagram counts already for the frames of its own event
-abbrev pub homes_by : Record → Option Addr → List Home → List Home
-homes_by (Data port octets) from homes = with_home port from homes
-homes_by (Control lane (Frame port octets)) from homes = with_home port from homes
-homes_by (Control lane (Radius socket octets)) from homes = homes
-homes_by (Control lane (Dynamic client octets)) from homes = homes
-homes_by (Control lane Second) from homes = homes
-homes_by (Control lane (Link port up)) from homes = homes
-homes_by (Control lane (SetControl port control)) from homes = homes
-
 abbrev pub homes_after : List Home → Arrival → List Home
-homes_after homes a = homes_by a.entry a.from homes
+homes_after homes a = with_home (frame_port a.entry) a.from homes
 
 abbrev pub all_homes : List Home → List Arrival → List Home
 all_homes homes [] = homes
