@@ -1,2 +1,5 @@
 mod Parts
 mod Comments
+mod Outer
+mod Entering
+mod Steps

@@ -1,7 +1,9 @@
 -- How a run ends.
-use Rattle.std.specs.Prelude.{◌≡◌, ◌⊎◌, ◌<◌, ◌≤◌, ◌++◌, ⊤, ℕ, List, length, take, Option, Some, None, Err, IfSome, min}
+use Rattle.std.specs.Prelude.{◌≡◌, ◌⊎◌, ◌<◌, ◌≤◌, ◌++◌, ◌∷◌, [], ⊤, ℕ, Bool, List, length, take, Option, Some, None, Ok, Err, IfSome, min}
 use Rattle.std.specs.Io.KnownBytes.{Appends, Keeps}
+use Rattle.wire_defs.specs.Outside.{Rose}
 use Rattle.switch_event.specs.Config.{Config}
+use Rattle.switch_defs.specs.Switch.{State}
 use Rattle.trace_defs.specs.Text.{config_text}
 use Rattle.history_defs.specs.Output.{controls_in}
 use Rattle.outside_link.specs.Clock.{moment_of, moments_after}
@@ -12,9 +14,10 @@ use Rattle.serve_defs.specs.declared.TheConstants.{LAST_MOMENT}
 use Rattle.serve_defs.specs.Log.{cut}
 use Rattle.serve_defs.specs.Served.{Arrival, Outer, Step, entries_of, comes, outer_after, all_steps}
 use Rattle.serve_loop.specs.declared.ending.Ending.{Ending}
-use Rattle.serve_loop.specs.declared.ending.Ending.TheVariants.{Done, NoMemory, WriteFault, Full, LinkFault}
+use Rattle.serve_loop.specs.declared.ending.Ending.TheVariants.{Done, NoMemory, ReadFault, WriteFault, Full, LinkFault}
+use Rattle.serve_loop.specs.declared.server.Server.{Server}
 use Rattle.serve_loop.specs.Ending.{ending_of}
-use Rattle.serve_loop.specs.Run.{HasRunCause, IsHalfLogged, IsHalfPosted, IsLogged, outer_of}
+use Rattle.serve_loop.specs.Run.{HasRunCause, IsHalfLogged, IsHalfPosted, IsLogged, IsSound, outer_of}
 
 -- ---- what came, where clock and link tell
 
@@ -84,6 +87,14 @@ HeadHalts c origin taken WriteFault = (n : ℕ) × (n < length (config_text c))
 HeadHalts c origin taken NoMemory = Keeps origin taken
 HeadHalts c origin taken ending = ⊥
 
+-- a server begins with these settings
+pub record IsOpened {A : Type 0} (stands : A → State → Type 0) (made : A → ℕ) (room : ℕ)
+    (c : Config) (server : Server A) : Type 0 where
+  pub settings : server.config ≡ c
+  pub last : server.last ≡ c.clock
+  pub number : server.core.number ≡ 1
+  pub sound : IsSound stands made room server
+
 -- it ends while it writes the settings, with nothing sent, or later
 abbrev pub RunEnds : (room turns : ℕ) → Config → (before : Option Outer) →
     (waits : Option (List (List Incoming))) → (origin taken : Option (List ℕ)) →
@@ -110,27 +121,51 @@ later_moments (Some moments) = Some (moments_after moments)
 abbrev pub IsFirst : Option (List ℕ) → (moment : ℕ) → Type 0
 IsFirst moments moment = IfSome moments (λ m. moment ≡ moment_of m)
 
+-- what a source, a sink, a link and a clock tell: the octets that are left and those that were taken,
+-- the datagrams that wait and those that were sent, what is bound, and the moments
+pub record Told : Type 0 where
+  pub left : Option (List ℕ)
+  pub taken : Option (List ℕ)
+  pub waits : Option (List (List Incoming))
+  pub sent : Option (List Outgoing)
+  pub bound : Option (List Bool)
+  pub moments : Option (List ℕ)
+
 -- nothing was written, sent or taken from a channel
-pub record IsUntouched (taken taken_new : Option (List ℕ)) (sent sent_new : Option (List Outgoing))
-    (waits waits_new : Option (List (List Incoming))) : Type 0 where
-  pub written : Keeps taken taken_new
-  pub sent_none : Same sent sent_new
-  pub waiting : Same waits waits_new
+pub record IsUntouched (old new : Told) : Type 0 where
+  pub written : Keeps old.taken new.taken
+  pub sent_none : Same old.sent new.sent
+  pub waiting : Same old.waits new.waits
 
--- with these settings a channel could not be bound, or the run ends later, with the first moment as
--- their clock
-abbrev pub ServeEnds : (room turns : ℕ) → (settings : Config) → (moments : Option (List ℕ)) →
-    (waits waits_new : Option (List (List Incoming))) → (taken taken_new : Option (List ℕ)) →
-    (sent sent_new : Option (List Outgoing)) → Ending → Type 0
-ServeEnds room turns settings moments waits waits_new taken taken_new sent sent_new ending =
-    ((ending ≡ LinkFault) × IsUntouched taken taken_new sent sent_new waits waits_new)
-    ⊎ ((moment : ℕ) × IsFirst moments moment
-    × RunEnds room turns (clocked settings moment)
-    (outer_of (clocked settings moment).clock (later_moments moments) waits) waits_new
-    taken taken_new sent sent_new ending)
-
--- without settings nothing is bound, written, sent or asked
-pub record IsUnsettled (limit : ℕ) (left left_new : Option (List ℕ)) (e : SettingsErr)
-    (ending : Ending) : Type 0 where
-  pub reading : SettingsEnd limit left left_new (Err e)
+-- without settings nothing was bound either, and the clock was not asked
+pub record IsUnsettled (limit : ℕ) (old new : Told) (e : SettingsErr) (ending : Ending) :
+    Type 0 where
+  pub reading : SettingsEnd limit old.left new.left (Err e)
   pub ends : ending ≡ ending_of e
+  pub untouched : IsUntouched old new
+  pub unbound : Same old.bound new.bound
+  pub unasked : Same old.moments new.moments
+
+-- with settings a channel could not be bound, or the run ends later, with the first moment as their
+-- clock
+abbrev pub ServeEnds : (room turns : ℕ) → (settings : Config) → (old new : Told) → Ending → Type 0
+ServeEnds room turns settings old new ending =
+    ((ending ≡ LinkFault) × IsUntouched old new)
+    ⊎ ((moment : ℕ) × IsFirst old.moments moment
+    × RunEnds room turns (clocked settings moment)
+    (outer_of (clocked settings moment).clock (later_moments old.moments) old.waits) new.waits
+    old.taken new.taken old.sent new.sent ending)
+
+-- how a whole run ends: without settings, or with those of the source
+abbrev pub Ends : (limit room turns : ℕ) → (old new : Told) → Ending → Type 0
+Ends limit room turns old new ending =
+    ((e : SettingsErr) × IsUnsettled limit old new e ending)
+    ⊎ ((settings : Config) × SettingsEnd limit old.left new.left (Ok settings)
+    × ServeEnds room turns settings old new ending)
+
+-- the counts never fall, and a fault comes only where its count rose
+pub record HasEndCauses (source source_new out out_new link link_new : ℕ) (ending : Ending) :
+    Type 0 where
+  pub source_later : source ≤ source_new
+  pub read : ending ≡ ReadFault → Rose source source_new
+  pub run : HasEndCause out out_new link link_new ending

@@ -25,7 +25,7 @@ impl Homes {
     /// From now on the home of the port of a frame that came is where its datagram came from.
     pub fn note_arrival(&mut self, arrived: Arrived<'_>)
         ensures { (homes : List Home) → AreHomes self.old.table homes
-            → AreHomes self.new.table (homes_after homes (arrival_of arrived)) }
+            → AreHomes self.new.table (homes_after homes (arrival_of arrived.entry)) }
     {
         match frame_port(arrived.entry) {
             None => {}
@@ -54,7 +54,7 @@ impl Homes {
 
 // The port on which a frame came.
 fn frame_port(entry: Entry<'_>) -> Option<u8>
-    ensures { result ≡ frame_port_lem (entry_of entry) }
+    ensures { result ≡ frame_port_lem (entry_of entry.entry) }
 {
     match entry {
         Entry::Event(Event::Frame { port, .. }) => Some(port),

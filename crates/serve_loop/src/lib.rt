@@ -8,6 +8,7 @@ mod comment;
 mod ending;
 mod homes;
 mod post;
+mod run;
 mod server;
 
 pub use ending::{Ending, status};
