@@ -6,7 +6,7 @@ use Rattle.std.proofs.lemmas.Bool.{and_parts}
 use Rattle.std.proofs.lemmas.Bool.Decides.{nat_tests}
 use Rattle.wire_defs.specs.Text.{ended_lines, ended_after, open_line, words}
 use Rattle.wire_defs.proofs.TextLemmas.{open_line-append}
-use Rattle.switch_event.specs.Config.{Config, empty, is_valid}
+use Rattle.switch_event.specs.Config.{Config, empty, are_ports, is_valid}
 use Rattle.trace_defs.specs.declared.given.TheConstants.{SERVER}
 use Rattle.trace_defs.specs.Line.{Record, all_given, was_given, is_comment, words_line, line_of}
 use Rattle.trace_defs.specs.Line.Line.{Blank, Entry}
@@ -228,3 +228,9 @@ settings_valid c settings =
     let h = reading_sound settings.room settings.lines settings.p settings.reads in
     subst (λ x. is_valid x ≡ true) (sym settings.same)
     (IsRead-valid (record settings.p.config { clock = c.clock }) settings.p.given (at_moment settings.p.config settings.p.given c.clock settings.moment h.read) (h.begun settings.begun))
+
+-- and their ports are few and in range
+pub settings_ports : (c : Config) → AreSettings c → are_ports c.ports ≡ true
+settings_ports c settings =
+    let h = reading_sound settings.room settings.lines settings.p settings.reads in
+    ap (λ x. are_ports x.ports) settings.same ∙ (and_parts _ _ h.read.ports).0

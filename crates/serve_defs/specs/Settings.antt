@@ -1,6 +1,6 @@
 -- The settings that a server is given: the lines of a text up to the one that ends the settings. What
 -- stands behind that line does not count.
-use Rattle.std.specs.Prelude.{ℕ, nat_le, Bool, true, if◌then◌else◌, List, [], ◌∷◌, length}
+use Rattle.std.specs.Prelude.{ℕ, nat_le, Bool, if◌then◌else◌, List, [], ◌∷◌, length}
 use Rattle.switch_event.specs.Config.{empty}
 use Rattle.trace_defs.specs.Trace.{Progress, Reading, start, after_line, go_on, counted_lines}
 use Rattle.trace_defs.specs.Trace.Reading.{Going, Stopped}

@@ -3,3 +3,5 @@ mod Comments
 mod Outer
 mod Entering
 mod Steps
+mod Halting
+mod Whole

@@ -74,7 +74,7 @@ halts_taken room c before after channel d origin taken first sent came e m close
     entered e a goes is h = halts_entered room c before after (Ask channel) a origin taken first sent came e (subst (λ l. Moves c before (Ask channel) after l) is (m goes)) h
 
     by : (e : Ending) → TakeHalts room c channel d origin taken first sent came e → Halts room c before (Ask channel) after origin taken first sent came e
-    by Done h = (closes h.0, h.1)
+    by Done h = (closes h.0, h.1, h.2)
     by NoMemory h = entered NoMemory h.0 h.1 h.2 h.3
     by (Refused line why) h = entered (Refused line why) h.0 h.1 h.2 h.3
     by ReadFault h = entered ReadFault h.0 h.1 h.2 h.3
@@ -123,16 +123,26 @@ turns_split (suc n) m k h =
     ap turns_steps e ∙ ap (λ l. turn_steps ++ l) (turns_split n (n + 1 + k) k refl) ∙ sym (append_assoc turn_steps (turns_steps n) (turn_steps ++ turns_steps k))
 
 
-pub ups_next : (ports : List PortConf) (i : ℕ) (d : PortConf) → i < length ports
+ups_next : (ports : List PortConf) (i : ℕ) (d : PortConf) → i < length ports
     → map (λ p. Up p.port) (take (i + 1) ports) ≡ map (λ p. Up p.port) (take i ports) ++ Up (slice_index_or ports i d).port ∷ []
 ups_next ports i d h = ap (map (λ p. Up p.port)) (take_more ports i d h) ∙ map-append (λ p. Up p.port) (take i ports) (slice_index_or ports i d ∷ [])
 
-pub ups_split : (ports : List PortConf) (i : ℕ) (d : PortConf) → i < length ports
+ups_split : (ports : List PortConf) (i : ℕ) (d : PortConf) → i < length ports
     → map (λ p. Up p.port) ports ≡ map (λ p. Up p.port) (take i ports) ++ (Up (slice_index_or ports i d).port ∷ [] ++ map (λ p. Up p.port) (drop (i + 1) ports))
 ups_split ports i d h =
     ap (map (λ p. Up p.port)) (sym (take-append-drop (i + 1) ports)) ∙ map-append (λ p. Up p.port) (take (i + 1) ports) (drop (i + 1) ports)
     ∙ ap (λ l. l ++ map (λ p. Up p.port) (drop (i + 1) ports)) (ups_next ports i d h)
     ∙ append_assoc (map (λ p. Up p.port) (take i ports)) (Up (slice_index_or ports i d).port ∷ []) (map (λ p. Up p.port) (drop (i + 1) ports))
+
+-- a port that was looked up in the settings
+pub ups_next_at : (ports now : List PortConf) (i : ℕ) (d : PortConf) → now ≡ ports → i < length ports
+    → map (λ p. Up p.port) (take (i + 1) ports) ≡ map (λ p. Up p.port) (take i ports) ++ Up (slice_index_or now i d).port ∷ []
+ups_next_at ports now i d is h = subst (λ l. map (λ p. Up p.port) (take (i + 1) ports) ≡ map (λ p. Up p.port) (take i ports) ++ Up (slice_index_or l i d).port ∷ []) (sym is) (ups_next ports i d h)
+
+pub ups_split_at : (ports now : List PortConf) (i : ℕ) (d : PortConf) → now ≡ ports → i < length ports
+    → map (λ p. Up p.port) ports ≡ map (λ p. Up p.port) (take i ports) ++ (Up (slice_index_or now i d).port ∷ [] ++ map (λ p. Up p.port) (drop (i + 1) ports))
+ups_split_at ports now i d is h =
+    subst (λ l. map (λ p. Up p.port) ports ≡ map (λ p. Up p.port) (take i ports) ++ (Up (slice_index_or l i d).port ∷ [] ++ map (λ p. Up p.port) (drop (i + 1) ports))) (sym is) (ups_split ports i d h)
 
 module _ {A : Type 0} (stands : A → State → Type 0) (made : A → ℕ) where
   pub step_ok : {T : Type 0} (r : Result T Ending) (c : Config) (before after : Option Outer) (step : Step) (a : Arrival) (taken taken' : Option (List ℕ)) (sent sent' : Option (List Outgoing)) (old new : Server A)
@@ -287,3 +297,7 @@ module _ {A : Type 0} (stands : A → State → Type 0) (made : A → ℕ) where
       → Stops stands made room c before all after taken taken'' sent sent'' a e
   stops_over room c d xs ys all before mid after taken taken' taken'' sent sent' sent'' a b e split same p q =
       stops_later room c before mid after xs ys all taken taken' taken'' sent sent' sent'' a b e split p (subst (λ f. Stops stands made room f mid ys after taken' taken'' sent' sent'' b e) same q)
+
+  pub steps_same : (c : Config) (before after : Option Outer) (xs ys : List Step) (taken taken' : Option (List ℕ)) (sent sent' : Option (List Outgoing)) (a b : Server A) → xs ≡ ys
+      → Steps stands made c before xs after taken taken' sent sent' a b → Steps stands made c before ys after taken taken' sent sent' a b
+  steps_same c before after xs ys taken taken' sent sent' a b e p = subst (λ l. Steps stands made c before l after taken taken' sent sent' a b) e p

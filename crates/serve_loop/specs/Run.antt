@@ -173,7 +173,8 @@ abbrev pub TakeHalts : (room : ℕ) → Config → (channel : ℕ) → Incoming 
     (origin taken : Option (List ℕ)) → (first sent : Option (List Outgoing)) →
     (came : List Arrival) → Ending → Type 0
 TakeHalts room c channel d origin taken first sent came Done =
-    (ends_run channel d.octets ≡ true) × IsLogged c origin taken first sent came
+    (ends_run channel d.octets ≡ true) × ((place_of c came).serial ≤ room)
+    × IsLogged c origin taken first sent came
 TakeHalts room c channel d origin taken first sent came ending =
     (a : Arrival) × (ends_run channel d.octets ≡ false) × (arrivals_of c channel d ≡ a ∷ [])
     × EnterHalts room c a origin taken first sent came ending
@@ -183,7 +184,8 @@ abbrev pub Halts : (room : ℕ) → Config → (before : Option Outer) → Step 
     (origin taken : Option (List ℕ)) → (first sent : Option (List Outgoing)) →
     (came : List Arrival) → Ending → Type 0
 Halts room c before step after origin taken first sent came Done =
-    Closes c before step after × IsLogged c origin taken first sent came
+    Closes c before step after × ((place_of c came).serial ≤ room)
+    × IsLogged c origin taken first sent came
 Halts room c before step after origin taken first sent came WriteFault = (a : Arrival) ×
     Moves c before step after (a ∷ []) × IsHalfLogged c origin taken first sent came a
 Halts room c before step after origin taken first sent came Full = (a : Arrival) ×

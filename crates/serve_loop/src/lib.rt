@@ -10,7 +10,8 @@ mod homes;
 mod post;
 mod run;
 mod server;
+mod top;
 
 pub use ending::{Ending, status};
 pub use outside_link::{Addr, Clock, Link};
-pub use server::Server;
+pub use top::serve_within;

@@ -7,12 +7,12 @@ use Rattle.std.proofs.lemmas.Bool.Decides.{nat_tests}
 use Rattle.std.specs.Io.KnownBytes.{Keeps, Consumes, IsAtEnd}
 use Rattle.wire_defs.specs.Text.{last_line}
 use Rattle.wire_defs.proofs.OutsideLemmas.{Consumes-none, Consumes-trans, Consumes-kept}
-use Rattle.switch_event.specs.Config.{Config, empty, is_valid}
+use Rattle.switch_event.specs.Config.{Config, empty}
 use Rattle.trace_defs.specs.Alike.{ReadAlike, is_line_feed, len_to_feed}
 use Rattle.trace_defs.specs.Line.{Line, line_of}
 use Rattle.trace_defs.specs.Line.Line.{Blank, Begin, Setting}
 use Rattle.trace_defs.specs.Reading.{HasRead}
-use Rattle.trace_defs.specs.Trace.{Progress, Reading, add_line, after_line, progress_of, reason_of, start}
+use Rattle.trace_defs.specs.Trace.{Progress, add_line, after_line, progress_of, reason_of, start}
 use Rattle.trace_defs.specs.Trace.Reading.{Going, Stopped}
 use Rattle.trace_defs.specs.Trace.Stop.{Refused as IsRefused}
 use Rattle.trace_defs.proofs.AlikeLemmas.{ReadAlike-none}
@@ -22,7 +22,7 @@ use Rattle.settings_reader.specs.declared.reader.Reader.{Reader}
 use Rattle.settings_reader.specs.declared.settings_err.SettingsErr.{SettingsErr}
 use Rattle.settings_reader.specs.declared.settings_err.SettingsErr.TheVariants.{NoMemory, Refused, ReadFault, TooLong}
 use Rattle.settings_reader.specs.Reader.{IsAt, Leads, Stops, TakesLine, TakesOctet, IsSettled, EndsRefused, EndsText, IsTaken, settled_at_end}
-use Rattle.settings_reader.specs.Settings.{EndsSettings, GivesSettings, IsJustRead, RefusesSettings, EndsAfter, Leaves, SettingsEnd}
+use Rattle.settings_reader.specs.Settings.{GivesSettings, EndsAfter, Leaves, SettingsEnd}
 use Rattle.settings_reader.proofs.Settling.{none_begins, settle_next, settle_stop, settings-ended, settings-stop, settings-long, settings-end, settled-end, settled-ended, fits_within}
 
 -- ---- at first, and after a line

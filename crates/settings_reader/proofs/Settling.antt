@@ -9,7 +9,7 @@ use Rattle.trace_defs.specs.Line.{Line}
 use Rattle.trace_defs.specs.Line.Line.{Blank, Begin, Sync, Setting, Entry}
 use Rattle.trace_defs.specs.Line.Record.{Control, Data}
 use Rattle.trace_defs.specs.Reading.{HasRead}
-use Rattle.trace_defs.specs.Trace.{Progress, Reading, Stop, start, add_line, after_line, go_on, read_lines}
+use Rattle.trace_defs.specs.Trace.{Progress, Stop, start, add_line, after_line, go_on, read_lines}
 use Rattle.trace_defs.specs.Trace.Reading.{Going, Stopped}
 use Rattle.trace_defs.specs.Trace.Stop.{Full}
 use Rattle.trace_defs.proofs.TraceLemmas.{counted_lines-feed}

@@ -8,7 +8,7 @@ use Rattle.trace_defs.specs.Trace.Stop.{Refused as IsRefused}
 use Rattle.serve_defs.specs.Settings.{settle, settings_fate_of}
 use Rattle.settings_reader.specs.declared.reader.Reader.{Reader}
 use Rattle.settings_reader.specs.declared.settings_err.SettingsErr.{SettingsErr}
-use Rattle.settings_reader.specs.declared.settings_err.SettingsErr.TheVariants.{NoMemory, Refused, ReadFault, TooLong}
+use Rattle.settings_reader.specs.declared.settings_err.SettingsErr.TheVariants.{NoMemory, Refused}
 use Rattle.settings_reader.specs.Settings.{EndsSettings, SettingsEnd}
 
 -- what holds of every reader: no port is configured twice, and each is in range

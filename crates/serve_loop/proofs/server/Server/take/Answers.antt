@@ -1,4 +1,4 @@
-use Rattle.std.proofs.Common.{sym, ◌∙◌, subst, ◌++◌, OnOk}
+use Rattle.std.proofs.Common.{sym, arith, ◌∙◌, subst, ◌++◌, OnOk}
 use Rattle.serve_loop.specs.Run.{IsAt}
 use Rattle.serve_loop.proofs.Entering.{logged_of}
 use Rattle.serve_loop.proofs.Steps.{entered_ok}
@@ -6,7 +6,8 @@ use Rattle.serve_loop.proofs.server.Server.take.Goals as goal
 
 pub returns-then-ends_run-clause-err : goal.returns-then-ends_run-clause-err
 returns-then-ends_run-clause-err g c = λ origin first came at.
-    (sym c.ends_run.ensures ∙ c.if-ends_run.true, logged_of g.A.Authenticator.stands g.A.Authenticator.made origin _ first _ c.args.self.now came at)
+    let s = c.requires.sound in
+    (sym c.ends_run.ensures ∙ c.if-ends_run.true, omega (arith, s.few, s.standing.serial, at.standing.serial), logged_of g.A.Authenticator.stands g.A.Authenticator.made origin _ first _ c.args.self.now came at)
 
 pub returns-in-Some-clause-ok : goal.returns-in-Some-clause-ok
 returns-in-Some-clause-ok g c = λ origin first came at.

@@ -1,7 +1,7 @@
-use Rattle.std.proofs.Common.{◌≡◌, ◌∙◌, false, refl, sym, ap, Ok, Err}
+use Rattle.std.proofs.Common.{◌∙◌, false, refl, sym, ap}
 use Rattle.wire_defs.specs.Text.{ended_lines}
 use Rattle.trace_defs.specs.Line.{line_of}
-use Rattle.settings_reader.proofs.Reached.{leads_begin, leads_blank, leads_setting, stops_refused}
+use Rattle.settings_reader.proofs.Reached.{leads_begin, leads_blank, leads_setting}
 use Rattle.settings_reader.proofs.reader.Reader.take_line.Goals as goal
 
 pub returns-in-Ok-Begin-clause-takes : goal.returns-in-Ok-Begin-clause-takes

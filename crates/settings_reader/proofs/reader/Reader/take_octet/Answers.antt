@@ -1,4 +1,4 @@
-use Rattle.std.proofs.Common.{◌∙◌, ◌++◌, refl, sym, ap, subst}
+use Rattle.std.proofs.Common.{◌++◌, refl, subst}
 use Rattle.switch_event.specs.Config.{empty}
 use Rattle.trace_defs.specs.Alike.{ReadAlike}
 use Rattle.trace_defs.proofs.TraceLemmas.{HasRead-other}
