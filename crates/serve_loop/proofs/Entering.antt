@@ -1,7 +1,7 @@
 -- What is run, logged and sent for one more record.
-use Rattle.std.proofs.Common.{◌≡◌, ℕ, ◌+◌, ◌≤◌, ◌<◌, true, List, [], ◌∷◌, ◌++◌, Option, Result, Ok, Err, OnOk, IfErr, refl, sym, ap, ◌∙◌, subst, arith, append_assoc, append-nil, length, length-append, take}
+use Rattle.std.proofs.Common.{◌≡◌, ℕ, ◌+◌, ◌≤◌, ◌<◌, List, [], ◌∷◌, ◌++◌, Option, Result, Ok, Err, IfErr, sym, ap, ◌∙◌, subst, arith, length, length-append, take}
 use Rattle.std.proofs.Math.Seq.{take-append-add}
-use Rattle.std.specs.Io.KnownBytes.{Appends, Keeps}
+use Rattle.std.specs.Io.KnownBytes.{Appends}
 use Rattle.wire_defs.proofs.OutsideLemmas.{Appends-trans, Appends-same, Appends-kept}
 use Rattle.std.specs.Prelude.{IsErr, IsErrAnd, ⊤}
 use Rattle.switch_event.specs.Config.{Config, are_ports}
@@ -9,14 +9,14 @@ use Rattle.switch_event.specs.Event.{Happening}
 use Rattle.switch_event.specs.Sent.{Sent}
 use Rattle.switch_defs.specs.Switch.{State}
 use Rattle.trace_defs.specs.Line.{Record}
-use Rattle.trace_defs.specs.Line.Record.{Control, Data}
+use Rattle.trace_defs.specs.Line.Record.{Control}
 use Rattle.trace_defs.specs.Text.{record_text}
 use Rattle.trace_defs.proofs.LineFacts.{IsRecord}
 use Rattle.trace_defs.proofs.TraceFacts.{AreRecords}
 use Rattle.history_defs.specs.Output.{Place, block, next_place}
 use Rattle.history_defs.proofs.PlaceLemmas.{place_config}
-use Rattle.outside_link.specs.Link.{Outgoing, Grows, Same}
-use Rattle.outside_link.proofs.LinkLemmas.{Grows-trans, Grows-same, Grows-kept}
+use Rattle.outside_link.specs.Link.{Outgoing, Grows}
+use Rattle.outside_link.proofs.LinkLemmas.{Grows-trans, Grows-same}
 use Rattle.sequential.specs.declared.sequential.Sequential.{Sequential}
 use Rattle.sequential.specs.Records.{Stands}
 use Rattle.serve_defs.specs.Laws.{AreSettings, ReadsBack}
@@ -28,12 +28,9 @@ use Rattle.serve_defs.proofs.LogBack.{log_back}
 use Rattle.serve_loop.specs.declared.ending.Ending.{Ending}
 use Rattle.serve_loop.specs.declared.ending.Ending.TheVariants.{Done, NoMemory, Refused, ReadFault, WriteFault, Full, LinkFault, TooLong}
 use Rattle.serve_loop.specs.declared.server.Server.{Server}
-use Rattle.serve_loop.specs.declared.arrived.Entry.{Entry}
-use Rattle.serve_loop.specs.declared.arrived.Entry.TheVariants as entry
-use Rattle.serve_loop.specs.Arrived.{entry_of, is_control_record}
 use Rattle.serve_loop.specs.Homes.{AreHomes}
 use Rattle.serve_loop.specs.Post.{SendsFirst}
-use Rattle.serve_loop.specs.Run.{EnterHalts, IsAt, IsHalfLogged, IsHalfPosted, IsLogged, IsSound, IsToSend, IsTooMany, NotRun, Runs, Sends, TakesText, place_of}
+use Rattle.serve_loop.specs.Run.{EnterHalts, IsAt, IsHalfPosted, IsLogged, IsSound, NotRun, TakesText, place_of}
 
 -- what holds of the failure holds of the result
 pub fails : {T : Type 0} (r : Result T Ending) (e : Ending) (P : Ending → Type 0) → IsErr r → IsErrAnd r (λ x. x ≡ e) → P e → IfErr r P

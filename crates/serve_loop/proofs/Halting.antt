@@ -1,8 +1,6 @@
 -- From the step at which a run ended to how it ended.
-use Rattle.std.proofs.Common.{◌≡◌, inl, inr, ℕ, zero, ◌+◌, ◌≤◌, ◌<◌, true, false, List, [], ◌∷◌, ◌++◌, Option, None, Some, IfSome, refl, sym, ap, ◌∙◌, subst, arith, append_assoc, append-nil}
-use Rattle.std.specs.Io.KnownBytes.{Appends}
+use Rattle.std.proofs.Common.{◌≡◌, inl, inr, ℕ, ◌+◌, ◌≤◌, ◌<◌, true, List, [], ◌∷◌, ◌++◌, Option, None, Some, refl, sym, ap, ◌∙◌, subst, arith, append_assoc, append-nil}
 use Rattle.switch_event.specs.Config.{Config}
-use Rattle.switch_event.specs.Event.{Happening}
 use Rattle.switch_defs.specs.Switch.{State}
 use Rattle.trace_defs.specs.Line.{Record}
 use Rattle.trace_defs.specs.Line.Record.{Control, Data}
@@ -18,7 +16,7 @@ use Rattle.serve_loop.specs.declared.ending.Ending.TheVariants.{Done, NoMemory, 
 use Rattle.serve_loop.specs.declared.server.Server.{Server}
 use Rattle.serve_loop.specs.Arrived.{is_control_record}
 use Rattle.serve_loop.specs.Run.{Moves, Closes, Passes, Passed, MovesOrStays, Halts, StopsAt, Stops, Steps, IsAt, IsLogged, IsSound, IsTooMany, outer_of, place_of}
-use Rattle.serve_loop.specs.Ends.{Finished, Begins, IsFull, IsPart, Partly, Halted, RunEnds}
+use Rattle.serve_loop.specs.Ends.{Finished, Begins, IsFull, Partly, Halted, RunEnds}
 use Rattle.serve_loop.proofs.Entering.{logged_of}
 use Rattle.serve_loop.proofs.Steps.{passes_one, passes_more}
 

@@ -104,7 +104,6 @@ turn_next (suc (suc (suc (suc zero)))) h = refl
 turn_next (suc (suc (suc (suc (suc zero))))) h = refl
 turn_next (suc (suc (suc (suc (suc (suc k)))))) h = absurd (omega (arith, h))
 
-
 turns_end : (n : ℕ) → turns_steps (suc n) ≡ turns_steps n ++ turn_steps
 turns_end zero = refl
 turns_end (suc n) = ap (λ l. turn_steps ++ l) (turns_end n) ∙ sym (append_assoc turn_steps (turns_steps n) turn_steps)
@@ -121,7 +120,6 @@ turns_split zero m k h =
 turns_split (suc n) m k h =
     let e : m ≡ suc (n + 1 + k) = omega (arith, h) in
     ap turns_steps e ∙ ap (λ l. turn_steps ++ l) (turns_split n (n + 1 + k) k refl) ∙ sym (append_assoc turn_steps (turns_steps n) (turn_steps ++ turns_steps k))
-
 
 ups_next : (ports : List PortConf) (i : ℕ) (d : PortConf) → i < length ports
     → map (λ p. Up p.port) (take (i + 1) ports) ≡ map (λ p. Up p.port) (take i ports) ++ Up (slice_index_or ports i d).port ∷ []

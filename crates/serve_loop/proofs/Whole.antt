@@ -1,13 +1,12 @@
 -- From a run behind its settings to the whole run.
-use Rattle.std.proofs.Common.{◌≡◌, ◌⊎◌, inl, inr, ℕ, ◌≤◌, min, List, [], ◌∷◌, ◌++◌, Option, None, Some, Ok, Err, refl, sym, ap, ap₂, ◌∙◌, subst, arith}
-use Rattle.std.specs.Prelude.{Bool, IfSome}
+use Rattle.std.proofs.Common.{◌≡◌, ◌⊎◌, inl, inr, ℕ, ◌≤◌, min, List, [], ◌∷◌, ◌++◌, Option, None, Some, Ok, Err, refl, sym, ap, ap₂, ◌∙◌, subst}
+use Rattle.std.specs.Prelude.{Bool}
 use Rattle.std.specs.Io.KnownBytes.{Keeps, IsAtEnd}
 use Rattle.std.proofs.Math.Nat.{min-le_right}
 use Rattle.wire_defs.specs.Text.{ended_lines}
 use Rattle.wire_defs.proofs.OutsideLemmas.{Keeps-same}
 use Rattle.switch_event.specs.Config.{Config, empty}
-use Rattle.trace_defs.specs.Trace.{Progress, read_lines, start}
-use Rattle.trace_defs.specs.Trace.Reading.{Going}
+use Rattle.trace_defs.specs.Trace.{Progress, start}
 use Rattle.trace_defs.proofs.TraceLemmas.{read_lines-append, read_lines-next}
 use Rattle.outside_link.specs.Clock.{Tells}
 use Rattle.outside_link.specs.Link.{Incoming, Outgoing, Same, Grows}
@@ -19,8 +18,8 @@ use Rattle.serve_defs.specs.Served.{Arrival, Outer, Step, all_steps}
 use Rattle.serve_loop.specs.declared.ending.Ending.{Ending}
 use Rattle.serve_loop.specs.declared.ending.Ending.TheVariants.{Done, NoMemory, Refused, ReadFault, WriteFault, Full, LinkFault, TooLong}
 use Rattle.serve_loop.specs.Ending.{ending_of}
-use Rattle.serve_loop.specs.Run.{IsHalfLogged, IsHalfPosted, IsLogged, outer_of}
-use Rattle.serve_loop.specs.Ends.{Ends, Halted, IsFirst, IsFull, IsUnsettled, IsUntouched, RunEnds, ServeEnds, Told, clocked, later_moments}
+use Rattle.serve_loop.specs.Run.{IsLogged, outer_of}
+use Rattle.serve_loop.specs.Ends.{Ends, Halted, IsFirst, RunEnds, Told, clocked, later_moments}
 
 -- ---- settings that were read
 
@@ -112,13 +111,16 @@ run_after room turns c before mid waits origin taken first started sent e b s (i
 pub ends_unsettled : (limit room turns : ℕ) (left left' taken : Option (List ℕ)) (waits : Option (List (List Incoming))) (sent : Option (List Outgoing)) (bound : Option (List Bool)) (moments : Option (List ℕ)) (e : SettingsErr) (ending : Ending)
     → SettingsEnd limit left left' (Err e) → ending ≡ ending_of e
     → Ends limit room turns (record { left = left; taken = taken; waits = waits; sent = sent; bound = bound; moments = moments }) (record { left = left'; taken = taken; waits = waits; sent = sent; bound = bound; moments = moments }) ending
-ends_unsettled limit room turns left left' taken waits sent bound moments e ending reading is = inl (e, record {
-  reading = reading;
-  ends = is;
-  untouched = record { written = Keeps-same taken; sent_none = Same-refl sent; waiting = Same-refl waits };
-  unbound = Same-refl bound;
-  unasked = Same-refl moments;
-})
+ends_unsettled limit room turns left left' taken waits sent bound moments e ending reading is = inl (
+  e,
+  record {
+    reading = reading;
+    ends = is;
+    untouched = record { written = Keeps-same taken; sent_none = Same-refl sent; waiting = Same-refl waits };
+    unbound = Same-refl bound;
+    unasked = Same-refl moments;
+  },
+)
 
 pub ends_unbound : (limit room turns : ℕ) (old new : Told) (settings : Config) → SettingsEnd limit old.left new.left (Ok settings) → new.taken ≡ old.taken → Same old.sent new.sent → Same old.waits new.waits
     → Ends limit room turns old new LinkFault
@@ -131,10 +133,14 @@ pub ends_served : (limit room turns : ℕ) (old new : Told) (settings c : Config
     → Ends limit room turns old new e
 ends_served limit room turns old new settings c moment m' w' started e reading t sw ss is h =
     let d = clocked settings moment in
-    inr (settings, reading, inr (
-      moment,
-      is_first old.moments m' moment t,
-      run_after room turns d (outer_of d.clock (later_moments old.moments) old.waits) (outer_of d.clock m' w') new.waits old.taken new.taken old.sent started new.sent e
-          (told d.clock moment old.moments m' old.waits w' t sw) ss
-          (subst (λ k. RunEnds room turns k (outer_of k.clock m' w') new.waits old.taken new.taken started new.sent e) is h),
-    ))
+    inr (
+      settings,
+      reading,
+      inr (
+        moment,
+        is_first old.moments m' moment t,
+        run_after room turns d (outer_of d.clock (later_moments old.moments) old.waits) (outer_of d.clock m' w') new.waits old.taken new.taken old.sent started new.sent e
+            (told d.clock moment old.moments m' old.waits w' t sw) ss
+            (subst (λ k. RunEnds room turns k (outer_of k.clock m' w') new.waits old.taken new.taken started new.sent e) is h),
+      ),
+    )

@@ -108,12 +108,7 @@ impl<A: Authenticator + Drop> Server<A> {
     }
 
     // Sends what the record that was run sends.
-    fn send<R: Net, L: Link>(
-        &self,
-        rt: &R,
-        entry: Entry<'_>,
-        link: &mut L,
-    ) -> Result<(), Failed>
+    fn send<R: Net, L: Link>(&self, rt: &R, entry: Entry<'_>, link: &mut L) -> Result<(), Failed>
         ensures ok { (homes : List Home) (sent : List Sent) → AreHomes self.now.homes.table homes
             → IsToSend entry.entry self.now.core.tray.items sent
             → OnOk result (Grows (L.sent link.old) (L.sent link.new)

@@ -53,10 +53,22 @@ pub fn serve_within<A: Authenticator + Drop, R: Net, S: Source, K: Sink, L: Link
     requires limit { limit < 2 ^ 62 }
     requires room { room ≤ MOST_EVENTS }
     ensures ends { Ends limit room turns
-        (record { left = S.left source.old; taken = K.taken out.old; waits = L.waits link.old;
-        sent = L.sent link.old; bound = L.bound link.old; moments = C.moments clock.old })
-        (record { left = S.left source.new; taken = K.taken out.new; waits = L.waits link.new;
-        sent = L.sent link.new; bound = L.bound link.new; moments = C.moments clock.new })
+        (record {
+          left = S.left source.old;
+          taken = K.taken out.old;
+          waits = L.waits link.old;
+          sent = L.sent link.old;
+          bound = L.bound link.old;
+          moments = C.moments clock.old;
+        })
+        (record {
+          left = S.left source.new;
+          taken = K.taken out.new;
+          waits = L.waits link.new;
+          sent = L.sent link.new;
+          bound = L.bound link.new;
+          moments = C.moments clock.new;
+        })
         result }
     ensures cause { HasEndCauses (S.faults source.old) (S.faults source.new) (K.faults out.old)
         (K.faults out.new) (L.faults link.old) (L.faults link.new) result }

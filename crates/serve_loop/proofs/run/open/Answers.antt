@@ -1,4 +1,4 @@
-use Rattle.std.proofs.Common.{sym, ◌∙◌, ◌++◌, ap, append-nil, refl, arith}
+use Rattle.std.proofs.Common.{ap, refl, arith}
 use Rattle.history_defs.specs.Output.{first_place}
 use Rattle.serve_defs.proofs.LogBack.{settings_valid, settings_ports}
 use Rattle.serve_loop.proofs.run.open.Goals as goal

@@ -1,4 +1,4 @@
-use Rattle.std.proofs.Common.{◌∙◌, ◌++◌, ◌≡◌, sym, refl, ap, map, inl}
+use Rattle.std.proofs.Common.{◌∙◌, ◌++◌, ◌≡◌, sym, ap, map}
 use Rattle.serve_defs.specs.Served.{turns_steps, all_steps}
 use Rattle.serve_defs.specs.Served.Step.{Up}
 use Rattle.serve_loop.proofs.Steps.{stops_first, stops_over, goes_on}

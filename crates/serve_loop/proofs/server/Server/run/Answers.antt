@@ -1,4 +1,4 @@
-use Rattle.std.proofs.Common.{arith, ap, sym, refl, ◌∙◌, ◌+◌, ◌≤◌}
+use Rattle.std.proofs.Common.{arith, ap, refl, ◌+◌, ◌≤◌}
 use Rattle.trace_defs.specs.Line.Record.{Control}
 use Rattle.event_record.specs.Record.{event_of}
 use Rattle.serve_loop.specs.Arrived.{entry_of}

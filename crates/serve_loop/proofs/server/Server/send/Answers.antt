@@ -1,9 +1,8 @@
-use Rattle.std.proofs.Common.{refl, sym, ap, subst, ◌∙◌, OnOk, IfErr}
+use Rattle.std.proofs.Common.{sym, ap, subst, ◌∙◌, OnOk, IfErr}
 use Rattle.outside_link.specs.Link.{Grows}
 use Rattle.serve_defs.specs.Posted.{all_posted}
 use Rattle.serve_loop.specs.Homes.{AreHomes}
 use Rattle.serve_loop.specs.Post.{SendsFirst}
-use Rattle.serve_loop.specs.Run.{IsToSend}
 use Rattle.serve_loop.proofs.server.Server.send.Goals as goal
 
 pub returns-in-Event-clause-ok : goal.returns-in-Event-clause-ok

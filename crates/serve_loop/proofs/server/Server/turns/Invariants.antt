@@ -1,4 +1,4 @@
-use Rattle.std.proofs.Common.{◌≡◌, ◌≤◌, ◌+◌, ◌*◌, length}
+use Rattle.std.proofs.Common.{◌≡◌, ◌≤◌, ◌+◌, ◌*◌}
 use Rattle.serve_defs.specs.Served.{turns_steps}
 use Rattle.serve_loop.specs.Run.{IsSound, Steps, outer_of}
 use Rattle.serve_loop.proofs.server.Server.turns.Given as goal
