@@ -146,6 +146,8 @@ def replay(program, trace):
 
 def check_history(program, settings, records, blocks):
     """The replies and decisions, as one thread gives them in the order of the history."""
+    if not records:
+        return  # then the settings themselves may be what is refused
     pairs = sorted(zip(records, blocks), key=lambda pair: (pair[1].count, pair[0].lane is not None))
     lines = settings + [record.line for record, _ in pairs]
     output, status = replay(program, b"\n".join(lines) + b"\n")
