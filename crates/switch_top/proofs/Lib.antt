@@ -1,1 +1,3 @@
-mod TopLemmas
+pub mod FormLemmas
+pub mod TopLemmas
+pub mod RaceLemmas

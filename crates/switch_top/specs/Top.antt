@@ -4,7 +4,8 @@ use Rattle.std.specs.Io.KnownBytes.{Appends, Consumes}
 use Rattle.switch_event.specs.Config.{Config}
 use Rattle.trace_defs.specs.Trace.{fate}
 use Rattle.race_run.specs.Runs.{Phased}
-use Rattle.race_run.specs.Ending.{OfText, EndsByFate, TakesGiven, HalfWritten}
+use Rattle.race_run.specs.declared.ending.Ending.{Ending}
+use Rattle.race_run.specs.Ending.{OfText, EndsByFate, TakesGiven, HalfWritten, RunEnds}
 use Rattle.race_run.specs.Counts.{counts_of, HalfCounted}
 
 -- the statuses that the text alone decides
@@ -52,3 +53,9 @@ pub record Counts (limit room : ℕ) (config : Config) (before left origin after
   pub nothing : (status ≡ 1) ⊎ (status ≡ 4) → Appends origin after []
   pub write_fault : status ≡ 5
       → OfGiven before left (λ given. HalfCounted limit room config given left origin after)
+
+-- what a run of several threads wrote that ended for want of memory: as at some end of a run
+pub record RaceShort (gave : Phased) (limit room : ℕ) (config : Config)
+    (before left origin after : Option (List ℕ)) : Type 0 where
+  pub ending : Ending
+  pub ends : RunEnds gave gave limit room config before left origin after ending

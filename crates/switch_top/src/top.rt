@@ -9,9 +9,10 @@ ghost use Rattle.history_defs.specs.Output.{IsPlain};
 ghost use Rattle.history_defs.specs.Status.{status_text};
 ghost use Rattle.outside_text.specs.Streams.{Says};
 ghost use Rattle.race_run.specs.Ending.{OfText, StopsShort, refusal_of, status_of, ending_text};
-ghost use Rattle.switch_top.specs.declared.form.Form.TheVariants.{Check as AsksCheck, Replay as AsksReplay};
+ghost use Rattle.race_phases.specs.Raced.{begun_by, legal_by};
+ghost use Rattle.switch_top.specs.declared.form.Form.TheVariants.{Check as AsksCheck, Replay as AsksReplay, Race as AsksRace};
 ghost use Rattle.switch_top.specs.Form.{form_of as asked};
-ghost use Rattle.switch_top.specs.Top.{Counts, IsByText, IsStatus, OfGiven, Writes};
+ghost use Rattle.switch_top.specs.Top.{Counts, IsByText, IsStatus, OfGiven, RaceShort, Writes};
 
 use crate::form::{Form, form_of};
 use control_core::Core;
@@ -19,6 +20,7 @@ use event_record::MOST_EVENTS;
 use history_defs::MOST_OCTETS;
 use outside_core::{Sink, Source};
 use outside_link::{Clock, Link};
+use race_phases::race_within;
 use race_run::{Ending, check_within, replay_within, say, say_ending, status, status_words};
 use std::alloc::Global;
 use std::net::Net;
@@ -27,7 +29,7 @@ use std::thread::Threads;
 
 /// Runs the program of these words over a source, writes its output into `out` and what is said of
 /// its status into `err`, and answers the status. `check` counts the records of a trace; `replay`
-/// runs them on one thread.
+/// runs them on one thread, and `race W L` on W workers and L lanes.
 pub fn switch_top<S, K, L, C, T>(
     rt: &T,
     alloc: Global,
@@ -72,6 +74,18 @@ where
         StopsShort IsPlain MOST_OCTETS MOST_EVENTS empty given (S.left source.new)
         (K.taken out.old) (K.taken out.new)) }
 
+    // `race W L`: the same of the texts that are legal on W workers and L lanes. Of the phases
+    // before one that was not written as a whole, and where there was no memory, all is said but
+    // that each decision is right.
+    ensures raced { (workers lanes : ℕ)
+        → asked (map string_bytes words.now) ≡ Some (AsksRace workers lanes)
+        → Writes (begun_by lanes workers) (legal_by lanes workers) MOST_OCTETS MOST_EVENTS empty
+        (S.left source.old) (S.left source.new) (K.taken out.old) (K.taken out.new) result }
+    ensures race_short { (workers lanes : ℕ)
+        → asked (map string_bytes words.now) ≡ Some (AsksRace workers lanes) → result ≡ 1
+        → RaceShort (begun_by lanes workers) MOST_OCTETS MOST_EVENTS empty (S.left source.old)
+        (S.left source.new) (K.taken out.old) (K.taken out.new) }
+
     // `check`: the numbers of records and of control records were written where the text is one
     // that runs; after a write fault a part of them; and else nothing.
     ensures checked { asked (map string_bytes words.now) ≡ Some AsksCheck
@@ -98,6 +112,19 @@ where
             let ending = replay_within::<Core, T, S, K>(
                 rt,
                 alloc,
+                MOST_OCTETS,
+                MOST_EVENTS as u64,
+                source,
+                out,
+            );
+            told(err, ending)
+        }
+        Some(Form::Race { workers, lanes }) => {
+            let ending = race_within(
+                rt,
+                alloc,
+                lanes,
+                workers,
                 MOST_OCTETS,
                 MOST_EVENTS as u64,
                 source,

@@ -1,7 +1,9 @@
+use Rattle.std.proofs.Common.{sym, ap, ◌∙◌, Some}
 use Rattle.event_record.specs.declared.TheConstants.{MOST_EVENTS}
 use Rattle.history_defs.specs.declared.TheConstants.{MOST_OCTETS}
 use Rattle.history_defs.specs.Output.{IsPlain}
 use Rattle.switch_event.specs.Config.{empty}
+use Rattle.switch_top.proofs.RaceLemmas.{race_writes_so, race_short_so, race_refused}
 use Rattle.switch_top.proofs.TopLemmas.{run_writes, run_short, run_refused, count_writes, count_refused}
 use Rattle.switch_top.proofs.top.switch_top.Goals as goal
 
@@ -24,3 +26,17 @@ returns-in-Some-Replay-clause-replay_short g c = λ asked one.
 pub returns-in-Some-Replay-clause-refused : goal.returns-in-Some-Replay-clause-refused
 returns-in-Some-Replay-clause-refused g c = λ three.
     run_refused IsPlain IsPlain MOST_OCTETS MOST_EVENTS empty _ _ _ _ _ _ _ _ c.replay_within-ending.result _ c.replay_within-ending.ensures.ends c.told-in-Some-Replay.ensures.said c.told-in-Some-Replay.ensures.status three
+
+pub returns-in-Some-Race-clause-raced : goal.returns-in-Some-Race-clause-raced
+returns-in-Some-Race-clause-raced g c = λ workers lanes asked.
+    race_writes_so _ workers lanes c.in-Some-Race.lanes c.in-Some-Race.workers MOST_OCTETS MOST_EVENTS empty _ _ _ _ c.race_within-ending.result _ asked
+    (sym c.form_of.ensures.form ∙ c.in-Some-Race.is ∙ ap Some c.in-Some-Race.field-0-is) c.race_within-ending.ensures.ends c.told-in-Some-Race.ensures.status
+
+pub returns-in-Some-Race-clause-race_short : goal.returns-in-Some-Race-clause-race_short
+returns-in-Some-Race-clause-race_short g c = λ workers lanes asked one.
+    race_short_so _ workers lanes c.in-Some-Race.lanes c.in-Some-Race.workers MOST_OCTETS MOST_EVENTS empty _ _ _ _ c.race_within-ending.result _ asked
+    (sym c.form_of.ensures.form ∙ c.in-Some-Race.is ∙ ap Some c.in-Some-Race.field-0-is) c.race_within-ending.ensures.ends c.told-in-Some-Race.ensures.status one
+
+pub returns-in-Some-Race-clause-refused : goal.returns-in-Some-Race-clause-refused
+returns-in-Some-Race-clause-refused g c = λ three.
+    race_refused c.in-Some-Race.lanes c.in-Some-Race.workers MOST_OCTETS MOST_EVENTS empty _ _ _ _ _ _ _ _ c.race_within-ending.result _ c.race_within-ending.ensures.ends c.told-in-Some-Race.ensures.said c.told-in-Some-Race.ensures.status three
