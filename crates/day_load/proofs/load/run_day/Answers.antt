@@ -41,8 +41,7 @@ pass-requires-in-loop-hour-after_bounds g c κs within =
 
 pub pass-requires-in-loop-hour-2-after_bounds : goal.pass-requires-in-loop-hour-2-after_bounds
 pass-requires-in-loop-hour-2-after_bounds g c κs within =
-    let k = c.loop-hour._hour in
-    (
+    let k = c.loop-hour._hour in (
       c.args.hosts,
       hours k ++ Hour ∷ [],
       c.in_ok-run-3.ensures c.args.hosts (hours k) c.loop-hour.invariant,
