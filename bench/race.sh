@@ -1,37 +1,98 @@
 #!/usr/bin/env bash
 # Measures `race` over data frames of 128 hosts on eight ports, with a control record behind every 200.
-# Usage: bench/race.sh [FRAMES]; build the program first (`rt run` in crates/switch_run).
+# Usage: bench/race.sh [FRAMES]; build the program first (`rt run` in crates/switch_run). It needs a C compiler.
 # Prints a line for `check`, which reads the trace and runs nothing, one for `replay`, and one for each number of workers and
-# lanes: seconds on the clock, seconds beyond those of `check`, octets of input per second, processor seconds, peak memory.
-# Each is the best of three runs. What a race writes is not looked at here: tools/race_cases.py does.
+# lanes: seconds on the clock, octets of input per second, processor seconds, peak memory; of races also the seconds in which threads
+# ran beside the first one, and the processor seconds of those threads (by some lines of C that stand before the calls that begin a
+# thread). Each is the best of five runs. What a race writes is not looked at here: tools/race_cases.py does.
 set -eu
 cd "$(dirname "$0")/.."
 frames=${1:-400000}
-program=crates/switch_run/out/switch_run
+program=$PWD/crates/switch_run/out/switch_run
 [ -x "$program" ] || { echo "build the program first: (cd crates/switch_run && rt run)" >&2; exit 1; }
 work=$(mktemp -d)
 trap 'rm -rf "$work"' EXIT
+
+cat > "$work/threads.c" <<'CODE'
+#define _GNU_SOURCE
+#include <dlfcn.h>
+#include <pthread.h>
+#include <stdio.h>
+#include <stdlib.h>
+#include <time.h>
+
+static pthread_mutex_t guard = PTHREAD_MUTEX_INITIALIZER;
+static int alive;
+static double since, clock_seconds, processor_seconds;
+
+struct begun { void *(*run)(void *); void *with; };
+
+static double now(clockid_t which) {
+    struct timespec t;
+    clock_gettime(which, &t);
+    return t.tv_sec + t.tv_nsec * 1e-9;
+}
+
+/* The program ends without leave of its libraries, so this is told whenever the last thread has ended. */
+static void tell(void) {
+    FILE *to = fopen(getenv("THREADS"), "w");
+    if (to) { fprintf(to, "%.3f %.3f\n", clock_seconds, processor_seconds); fclose(to); }
+}
+
+static void *timed(void *given) {
+    struct begun begun = *(struct begun *) given;
+    free(given);
+    void *answer = begun.run(begun.with);
+    double used = now(CLOCK_THREAD_CPUTIME_ID);
+    pthread_mutex_lock(&guard);
+    processor_seconds += used;
+    if (--alive == 0) {
+        clock_seconds += now(CLOCK_MONOTONIC) - since;
+        tell();
+    }
+    pthread_mutex_unlock(&guard);
+    return answer;
+}
+
+int pthread_create(pthread_t *id, const pthread_attr_t *how, void *(*run)(void *), void *with) {
+    static int (*next)(pthread_t *, const pthread_attr_t *, void *(*)(void *), void *);
+    if (!next) next = (__typeof__(next)) dlsym(RTLD_NEXT, "pthread_create");
+    struct begun *begun = malloc(sizeof *begun);
+    if (!begun) return 11;
+    *begun = (struct begun) { run, with };
+    pthread_mutex_lock(&guard);
+    if (alive++ == 0) since = now(CLOCK_MONOTONIC);
+    pthread_mutex_unlock(&guard);
+    return next(id, how, timed, begun);
+}
+CODE
+${CC:-cc} -O1 -shared -fPIC -o "$work/threads.so" "$work/threads.c" -ldl -pthread
 
 python3 bench/race_trace.py "$frames" > "$work/trace"
 octets=$(stat -c %s "$work/trace")
 echo "octets $octets, processors $(nproc), load $(cut -d ' ' -f 1 /proc/loadavg)"
 
-# Of three runs the seconds on the clock, processor seconds and peak memory of the fastest.
+# Of five runs the fastest: seconds on the clock, those of processors, peak memory, and the seconds of its threads.
 best() {
-    for _ in 1 2 3; do
-        /usr/bin/time -o "$work/time" -f '%e %U %S %M' "$program" "$@" < "$work/trace" > "$work/out" \
-            || { echo "$* failed" >&2; exit 1; }
-        cat "$work/time"
+    local before after
+    for _ in 1 2 3 4 5; do
+        echo "0 0" > "$work/threads"
+        before=$(date +%s%N)
+        THREADS="$work/threads" LD_PRELOAD="$work/threads.so" \
+            /usr/bin/time -o "$work/time" -f '%U %S %M' "$program" "$@" < "$work/trace" > "$work/out" || exit 1
+        after=$(date +%s%N)
+        echo "$(((after - before) / 1000)) $(cat "$work/time" "$work/threads" | xargs)"
     done | sort -n | head -1
 }
 
-read -r base _ < <(best check)
 for words in check replay "race 1 1" "race 2 1" "race 4 1" "race 4 3" "race 8 3"; do
     # shellcheck disable=SC2086
-    read -r wall user system memory < <(best $words)
-    echo "$words|$wall|$base|$octets|$user|$system|$memory" | awk -F '|' '{
-        printf "%s: %.2f s, beyond check %.2f s, octets per second %.0f, ", $1, $2, $2 - $3, $4 / $2
-        printf "processor seconds %.2f, peak memory %.1f MB\n", $5 + $6, $7 / 1024 }'
+    echo "$words|$octets|$(best $words)" | awk -F '|' '{
+        split($3, t, " ")
+        printf "%s: %.3f s, octets per second %.0f, processor seconds %.2f, peak memory %.1f MB", \
+            $1, t[1] / 1e6, $2 * 1e6 / t[1], t[2] + t[3], t[4] / 1024
+        if (t[5] > 0) printf "; in threads %.3f s, processor seconds %.3f", t[5], t[6]
+        print "" }'
     [ "$words" = check ] && continue
     forwarded=$(grep -c ' forward [0-9]* 42 ' "$work/out")
     [ "$forwarded" = "$frames" ] || { echo "forwarded $forwarded of $frames frames" >&2; exit 1; }
