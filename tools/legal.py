@@ -24,6 +24,7 @@ Prints `legal`, or the first thing that is broken, and then ends with status 1.
 """
 
 import argparse
+import functools
 import subprocess
 import sys
 from collections import namedtuple
@@ -138,6 +139,12 @@ def check_orders(records, blocks, workers):
             of_worker[worker] = at
 
 
+@functools.lru_cache(maxsize=1)
+def records_run(program, trace):
+    """How many records of a trace are run."""
+    return len(read_blocks(replay(program, trace)[0]))
+
+
 def replay(program, trace):
     """What the program writes for a trace on one thread, and its status."""
     ran = subprocess.run([program, "replay"], input=trace, capture_output=True, timeout=SECONDS)
@@ -163,8 +170,7 @@ def why_not(program, workers, lanes, trace, output):
     How many records are run, a trace says by what `replay` of it writes.
     """
     try:
-        run = len(read_blocks(replay(program, trace)[0]))
-        settings, records = read_trace(trace, run)
+        settings, records = read_trace(trace, records_run(program, trace))
         blocks = read_blocks(output)
         check_blocks(records, blocks, lanes)
         check_orders(records, blocks, workers)
