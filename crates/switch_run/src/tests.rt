@@ -3,7 +3,7 @@ ghost use Rattle.std.specs.Prelude.{◌≤◌, None};
 
 use crate::words::without_name;
 use outside_core::{Failed, MemSink, MemSource, Sink, Source, SureSink, SureSource};
-use outside_link::{ListClock, MemLink};
+use outside_link::{Addr, ListClock, MemLink};
 use std::alloc::{AllocError, Global};
 use std::cell::Cell;
 use std::net::Net;
@@ -45,6 +45,14 @@ fn called<T: Threads + Wait + Net + Sync, S: Source, K: Sink>(
     Ok(switch_top(rt, alloc, words, source, out, err, &mut link, &mut clock))
 }
 
+fn words_of(alloc: Global, words: &[&str]) -> Result<Vec<String>, AllocError> {
+    let mut all = Vec::new(alloc);
+    for word in words {
+        all.push(String::from_str(alloc, word)?)?;
+    }
+    Ok(all)
+}
+
 fn run<T: Threads + Wait + Net + Sync>(
     rt: &T,
     alloc: Global,
@@ -54,10 +62,7 @@ fn run<T: Threads + Wait + Net + Sync>(
 ) -> Result<Ran, AllocError>
     requires { 1 ≤ step }
 {
-    let mut all = Vec::new(alloc);
-    for word in words {
-        all.push(String::from_str(alloc, word)?)?;
-    }
+    let all = words_of(alloc, words)?;
     let mut source = MemSource::new(alloc, text, step, &[])?;
     let mut out = MemSink::new(alloc, ROOM, &[])?;
     let mut err = MemSink::new(alloc, ROOM, &[])?;
@@ -467,5 +472,88 @@ fn the_words_are_those_after_the_name(rt: HostRuntime) -> Result<(), Fail> {
     assert_eq!(rt; without_name(&line).len(), 1);
     assert_eq!(rt; without_name(&line)[0].as_str(), "trace");
     assert_eq!(rt; without_name(&[]).len(), 0);
+    Ok(())
+}
+
+#[test]
+fn a_race_prints_serials_of_the_order_of_a_lane(rt: HostRuntime) -> Result<(), Fail> {
+    let records = "link 1 up\n@1 link 2 up\n@1 link 3 up\n";
+    let text = format!(in rt.alloc(); "{SETTINGS}{records}")?;
+    let alone = run(&rt, rt.alloc(), &["replay"], text.as_bytes(), 4096)?;
+    assert_eq!(rt; alone.status, 0);
+    for workers in ["1", "8"] {
+        for lanes in ["1", "3"] {
+            let raced = run(&rt, rt.alloc(), &["race", workers, lanes], text.as_bytes(), 1)?;
+            assert_eq!(rt; raced.status, 0, "at {workers} {lanes}");
+            assert_eq!(rt; raced.out, alone.out, "at {workers} {lanes}");
+        }
+    }
+    Ok(())
+}
+
+#[test]
+fn words_that_are_no_form_are_said(rt: HostRuntime) -> Result<(), Fail> {
+    let rows: [&[&str]; 14] = [
+        &[],
+        &["check", "x"],
+        &["race", "1"],
+        &["race", "0", "1"],
+        &["race", "9", "1"],
+        &["race", "1", "4"],
+        &["race", "01", "1"],
+        &["serve", "5001", "5010", "5003"],
+        &["serve", "5001", "5010", "5003", "0"],
+        &["serve", "5001", "5010", "5003", "100000001"],
+        &["serve", "5001", "5010", "5001", "1"],
+        &["serve", "5013", "5010", "5003", "1"],
+        &["serve", "5001", "65533", "5003", "1"],
+        &["serve", "0", "5010", "5003", "1"],
+    ];
+    for words in rows {
+        let ran = run(&rt, rt.alloc(), words, b"begin\n", 1)?;
+        assert_eq!(rt; ran.status, 2);
+        assert_eq!(rt; ran.out.as_slice(), b"".as_slice());
+        assert_eq!(rt; ran.err.as_slice(), b"usage\n".as_slice());
+    }
+    Ok(())
+}
+
+#[test]
+fn a_server_logs_a_frame_and_answers_its_sender(rt: HostRuntime) -> Result<(), Fail> {
+    let words = words_of(rt.alloc(), &["serve", "5001", "5010", "5003", "2"])?;
+    let sender = Addr {
+        ip: [127, 0, 0, 1],
+        port: 6000,
+    };
+    let mut link = MemLink::new(rt.alloc(), ROOM, &[])?;
+    link.give(
+        rt.alloc(),
+        0,
+        sender,
+        b"\x01\x01\x80\xc2\x00\x00\x03\x02\x00\x00\x00\x00\xaa\x88\x8e\x01\x01\x00\x00",
+    )?;
+    link.give(rt.alloc(), 0, sender, b"\xff")?;
+    let mut clock = ListClock::new(rt.alloc(), &[1000])?;
+    let mut source = MemSource::new(rt.alloc(), SETTINGS.as_bytes(), 4096, &[])?;
+    let mut out = MemSink::new(rt.alloc(), ROOM, &[])?;
+    let mut err = MemSink::new(rt.alloc(), ROOM, &[])?;
+    let status = switch_top(
+        &rt,
+        rt.alloc(),
+        &words,
+        &mut source,
+        &mut out,
+        &mut err,
+        &mut link,
+        &mut clock,
+    );
+    let end = "frame 1 0180c20000030200000000aa888e01010000\n# c 4 @1 3 ok\n# f 1 0200000000aa020000010101888e020000050101000501\n";
+    assert_eq!(rt; status, 0);
+    assert_eq!(rt; err.taken(), b"".as_slice());
+    assert!(rt; out.taken().ends_with(end.as_bytes()));
+    let (channel, to, octets) = link.sent(0).unwrap_or((9, sender, b""));
+    assert_eq!(rt; (channel, to), (0, sender));
+    assert_eq!(rt; octets.len(), 23);
+    assert!(rt; link.sent(1).is_none());
     Ok(())
 }

@@ -1,3 +1,4 @@
 pub mod FormLemmas
 pub mod TopLemmas
 pub mod RaceLemmas
+pub mod ServeLemmas

@@ -1,12 +1,18 @@
 -- What the contract of the top call cites.
-use Rattle.std.specs.Prelude.{◌≡◌, ℕ, ◌==◌, if◌then◌else◌, [], ◌⊎◌, List, Option}
+use Rattle.std.specs.Prelude.{◌≡◌, ◌+◌, ℕ, ◌==◌, if◌then◌else◌, [], ◌⊎◌, List, Option}
 use Rattle.std.specs.Io.KnownBytes.{Appends, Consumes}
 use Rattle.switch_event.specs.Config.{Config}
-use Rattle.trace_defs.specs.Trace.{fate}
+use Rattle.trace_defs.specs.Trace.{fate, progress_of, reason_of}
+use Rattle.history_defs.specs.Status.{refusal_text, status_text}
 use Rattle.race_run.specs.Runs.{Phased}
 use Rattle.race_run.specs.declared.ending.Ending.{Ending}
 use Rattle.race_run.specs.Ending.{OfText, EndsByFate, TakesGiven, HalfWritten, RunEnds}
 use Rattle.race_run.specs.Counts.{counts_of, HalfCounted}
+use Rattle.serve_defs.specs.Settings.{settings_of}
+use Rattle.serve_loop.specs.declared.ending.Ending.{Ending as Served}
+use Rattle.serve_loop.specs.declared.ending.Ending.TheVariants as served
+use Rattle.serve_loop.specs.Ending.{status_of as served_status}
+use Rattle.serve_loop.specs.Ends.{Ends, Told}
 
 -- the statuses that the text alone decides
 abbrev pub IsByText : ℕ → Type 0
@@ -15,6 +21,7 @@ IsByText status = (status ≡ 0) ⊎ (status ≡ 3) ⊎ (status ≡ 6) ⊎ (stat
 -- and those of want of memory, of the words and of the outside
 abbrev pub IsStatus : ℕ → Type 0
 IsStatus status = IsByText status ⊎ (status ≡ 1) ⊎ (status ≡ 2) ⊎ (status ≡ 4) ⊎ (status ≡ 5)
+    ⊎ (status ≡ 7)
 
 -- this holds of the octets that a source gave
 abbrev pub OfGiven : Option (List ℕ) → Option (List ℕ) → (List ℕ → Type 0) → Type 0
@@ -59,3 +66,19 @@ pub record RaceShort (gave : Phased) (limit room : ℕ) (config : Config)
     (before left origin after : Option (List ℕ)) : Type 0 where
   pub ending : Ending
   pub ends : RunEnds gave gave limit room config before left origin after ending
+
+-- what is said of the end of a server's run
+abbrev pub served_text : Served → List ℕ
+served_text (served.Refused line why) = refusal_text line why
+served_text ending = status_text (served_status ending)
+
+-- what is said of the line of a server's settings that is refused
+abbrev pub settings_refusal : ℕ → List ℕ → List ℕ
+settings_refusal limit text =
+    refusal_text ((progress_of (settings_of limit text)).lines + 1) (reason_of (settings_of limit text))
+
+-- what a server's run did: how it ended, by its status
+pub record Serves (limit room turns : ℕ) (old new : Told) (status : ℕ) : Type 0 where
+  pub ending : Served
+  pub status_is : status ≡ served_status ending
+  pub ends : Ends limit room turns old new ending

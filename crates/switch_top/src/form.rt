@@ -14,7 +14,19 @@ pub enum Form {
     /// `replay`: a trace is run on one thread.
     Replay,
     /// `race W L`: a trace is run on 1 to 8 workers and 1 to 3 lanes.
-    Race { workers: usize, lanes: u8 },
+    Race {
+        workers: usize,
+        lanes: u8,
+    },
+    /// `serve A B C T`: frames, RADIUS and dynamic requests are served on these ports of UDP, for 1
+    /// to 100,000,000 turns. RADIUS has its port, 1 to 65,532, and the three that follow it. The six
+    /// are distinct.
+    Serve {
+        frames: u16,
+        radius: u16,
+        dynamic: u16,
+        turns: u32,
+    },
 }
 
 /// The form of these words, which do not have the program's own name; none where they ask for
@@ -26,6 +38,7 @@ pub fn form_of(words: &[String]) -> Option<Form>
     match words {
         [word] => alone(octets(word)),
         [word, w, l] => three(octets(word), octets(w), octets(l)),
+        [word, a, b, c, t] => five(octets(word), octets(a), octets(b), octets(c), octets(t)),
         _ => None,
     }
 }
@@ -70,6 +83,53 @@ fn raced(w: &[u8], l: &[u8]) -> Option<Form>
         workers: workers as usize,
         lanes: lanes as u8,
     })
+}
+
+fn five(word: &[u8], a: &[u8], b: &[u8], c: &[u8], t: &[u8]) -> Option<Form>
+    ensures form { result ≡ asked.five word.now a.now b.now c.now t.now }
+    ensures range { IfSome result IsInRange }
+{
+    if word == b"serve".as_slice() {
+        served(a, b, c, t)
+    } else {
+        None
+    }
+}
+
+fn served(a: &[u8], b: &[u8], c: &[u8], t: &[u8]) -> Option<Form>
+    ensures form { result ≡ asked.served a.now b.now c.now t.now }
+    ensures range { IfSome result IsInRange }
+{
+    let frames = number(a, 1, 65535)?;
+    let radius = number(b, 1, 65532)?;
+    let dynamic = number(c, 1, 65535)?;
+    let turns = number(t, 1, 100_000_000)?;
+    serving(frames as u16, radius as u16, dynamic as u16, turns)
+}
+
+fn serving(frames: u16, radius: u16, dynamic: u16, turns: u32) -> Option<Form>
+    requires { radius ≤ 65532 }
+    ensures form { result ≡ asked.serving frames radius dynamic turns }
+    ensures range { IfSome result IsInRange }
+{
+    if is_apart(frames, radius, dynamic) {
+        Some(Form::Serve {
+            frames,
+            radius,
+            dynamic,
+            turns,
+        })
+    } else {
+        None
+    }
+}
+
+fn is_apart(frames: u16, radius: u16, dynamic: u16) -> bool
+    requires { radius ≤ 65532 }
+    ensures { result ≡ asked.is_apart frames radius dynamic }
+{
+    let sockets = radius..=radius + 3;
+    frames != dynamic && !sockets.contains(&frames) && !sockets.contains(&dynamic)
 }
 
 // A number in a range.

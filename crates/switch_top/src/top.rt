@@ -1,5 +1,5 @@
 // The call that does all that the program does.
-ghost use Rattle.std.specs.Prelude.{◌≡◌, ◌≢◌, ◌↔◌, ℕ, List, Option, None, Some, map, string_bytes};
+ghost use Rattle.std.specs.Prelude.{◌≡◌, ◌≢◌, ◌↔◌, ℕ, List, Option, None, Some, true, false, map, string_bytes};
 ghost use Rattle.std.specs.Io.KnownBytes.{IsAtEnd};
 ghost use Rattle.wire_defs.specs.Outside.{Rose};
 ghost use Rattle.switch_event.specs.Config.{empty};
@@ -10,9 +10,10 @@ ghost use Rattle.history_defs.specs.Status.{status_text};
 ghost use Rattle.outside_text.specs.Streams.{Says};
 ghost use Rattle.race_run.specs.Ending.{OfText, StopsShort, refusal_of, status_of, ending_text};
 ghost use Rattle.race_phases.specs.Raced.{begun_by, legal_by};
-ghost use Rattle.switch_top.specs.declared.form.Form.TheVariants.{Check as AsksCheck, Replay as AsksReplay, Race as AsksRace};
-ghost use Rattle.switch_top.specs.Form.{form_of as asked};
-ghost use Rattle.switch_top.specs.Top.{Counts, IsByText, IsStatus, OfGiven, RaceShort, Writes};
+ghost use Rattle.switch_top.specs.declared.form.Form.TheVariants.{Check as AsksCheck, Replay as AsksReplay, Race as AsksRace, Serve as AsksServe};
+ghost use Rattle.serve_loop.specs.Ending.{status_of as served_status};
+ghost use Rattle.switch_top.specs.Form.{form_of as asked, is_serve};
+ghost use Rattle.switch_top.specs.Top.{Counts, IsByText, IsStatus, OfGiven, RaceShort, Serves, Writes, served_text, settings_refusal};
 
 use crate::form::{Form, form_of};
 use control_core::Core;
@@ -21,7 +22,10 @@ use history_defs::MOST_OCTETS;
 use outside_core::{Sink, Source};
 use outside_link::{Clock, Link};
 use race_phases::race_within;
-use race_run::{Ending, check_within, replay_within, say, say_ending, status, status_words};
+use race_run::{
+    Ending, check_within, refusal_words, replay_within, say, say_ending, status, status_words,
+};
+use serve_loop::{Ending as Served, serve_within};
 use std::alloc::Global;
 use std::net::Net;
 use std::sync::Wait;
@@ -29,7 +33,8 @@ use std::thread::Threads;
 
 /// Runs the program of these words over a source, writes its output into `out` and what is said of
 /// its status into `err`, and answers the status. `check` counts the records of a trace; `replay`
-/// runs them on one thread, and `race W L` on W workers and L lanes.
+/// runs them on one thread, and `race W L` on W workers and L lanes. `serve A B C T` takes settings
+/// from the source and serves what comes by the link, at the moments of the clock, for T turns.
 pub fn switch_top<S, K, L, C, T>(
     rt: &T,
     alloc: Global,
@@ -37,8 +42,8 @@ pub fn switch_top<S, K, L, C, T>(
     source: &mut S,
     out: &mut K,
     err: &mut K,
-    _link: &mut L,
-    _clock: &mut C,
+    link: &mut L,
+    clock: &mut C,
 ) -> u8
 where
     S: Source,
@@ -51,16 +56,21 @@ where
     ensures statuses { IsStatus result }
     ensures usage { (result ≡ 2) ↔ (asked (map string_bytes words.now) ≡ None) }
     ensures unused { result ≡ 2 → (source.new ≡ source.old) × (out.new ≡ out.old) }
-    ensures apart { (_link.new ≡ _link.old) × (_clock.new ≡ _clock.old) }
+    ensures apart { is_serve (asked (map string_bytes words.now)) ≡ false
+        → (link.new ≡ link.old) × (clock.new ≡ clock.old) }
 
     // The status is that of the text always, unless something outside failed or there was no
     // memory. A fault comes only where a count rose.
     ensures always { (Rose (S.faults source.old) (S.faults source.new) → ⊥)
-        → (Rose (K.faults out.old) (K.faults out.new) → ⊥) → result ≢ 1 → result ≢ 2
-        → IsByText result }
-    ensures at_end { result ≡ 0 → IsAtEnd (S.left source.new) }
+        → (Rose (K.faults out.old) (K.faults out.new) → ⊥)
+        → (Rose (L.faults link.old) (L.faults link.new) → ⊥)
+        → result ≢ 1 → result ≢ 2 → IsByText result }
+    ensures at_end { is_serve (asked (map string_bytes words.now)) ≡ false → result ≡ 0
+        → IsAtEnd (S.left source.new) }
     ensures read_fault { result ≡ 4 → Rose (S.faults source.old) (S.faults source.new) }
     ensures write_fault { result ≡ 5 → Rose (K.faults out.old) (K.faults out.new) }
+    ensures link_fault { result ≡ 7 → (is_serve (asked (map string_bytes words.now)) ≡ true)
+        × Rose (L.faults link.old) (L.faults link.new) }
 
     // `replay`: what was written is the output of the whole phases of the text; after a read fault
     // that of the phases that were given as a whole; after a write fault that of the phases before
@@ -92,12 +102,40 @@ where
         → Counts MOST_OCTETS MOST_EVENTS empty (S.left source.old) (S.left source.new)
         (K.taken out.old) (K.taken out.new) result }
 
+    // `serve A B C T`: how T turns end, by the settings, by what was written and sent, and by what
+    // came, where clock and link tell that.
+    ensures served { (frames radius dynamic turns : ℕ)
+        → asked (map string_bytes words.now) ≡ Some (AsksServe frames radius dynamic turns)
+        → Serves MOST_OCTETS MOST_EVENTS turns
+        (record {
+          left = S.left source.old;
+          taken = K.taken out.old;
+          waits = L.waits link.old;
+          sent = L.sent link.old;
+          bound = L.bound link.old;
+          moments = C.moments clock.old;
+        })
+        (record {
+          left = S.left source.new;
+          taken = K.taken out.new;
+          waits = L.waits link.new;
+          sent = L.sent link.new;
+          bound = L.bound link.new;
+          moments = C.moments clock.new;
+        })
+        result }
+
     // The text of the status was taken by `err`, all of it where its count did not rise.
     ensures said { result ≢ 3 → Says (K.taken err.old) (K.taken err.new)
         (K.faults err.old) (K.faults err.new) (status_text result) }
-    ensures refused { result ≡ 3 → OfText (S.left source.old) (λ b.
+    ensures refused { is_serve (asked (map string_bytes words.now)) ≡ false → result ≡ 3
+        → OfText (S.left source.old) (λ b.
         Says (K.taken err.old) (K.taken err.new) (K.faults err.old) (K.faults err.new)
         (refusal_of MOST_OCTETS MOST_EVENTS empty b)) }
+    ensures settings_refused { is_serve (asked (map string_bytes words.now)) ≡ true → result ≡ 3
+        → OfText (S.left source.old) (λ b.
+        Says (K.taken err.old) (K.taken err.new) (K.faults err.old) (K.faults err.new)
+        (settings_refusal MOST_OCTETS b)) }
 {
     match form_of(words) {
         None => {
@@ -132,6 +170,28 @@ where
             );
             told(err, ending)
         }
+        Some(
+            Form::Serve {
+                frames,
+                radius,
+                dynamic,
+                turns,
+            },
+        ) => {
+            let ending = serve_within::<Core, T, S, K, L, C>(
+                rt,
+                alloc,
+                &[frames, radius, dynamic, radius + 1, radius + 2, radius + 3],
+                turns,
+                MOST_OCTETS,
+                MOST_EVENTS as u64,
+                source,
+                out,
+                link,
+                clock,
+            );
+            told_served(err, ending)
+        }
     }
 }
 
@@ -143,4 +203,24 @@ fn told<K: Sink>(err: &mut K, ending: Ending) -> u8
 {
     say_ending(err, ending);
     status(ending)
+}
+
+// The same of a server's run.
+fn told_served<K: Sink>(err: &mut K, ending: Served) -> u8
+    ensures status { result ≡ served_status ending }
+    ensures said { Says (K.taken err.old) (K.taken err.new) (K.faults err.old) (K.faults err.new)
+        (served_text ending) }
+{
+    say_served(err, ending);
+    serve_loop::status(ending)
+}
+
+fn say_served<K: Sink>(err: &mut K, ending: Served)
+    ensures said { Says (K.taken err.old) (K.taken err.new) (K.faults err.old) (K.faults err.new)
+        (served_text ending) }
+{
+    match ending {
+        Served::Refused { line, why } => say(err, &refusal_words(line, why)),
+        _ => say(err, status_words(serve_loop::status(ending))),
+    }
 }
