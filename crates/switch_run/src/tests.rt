@@ -483,7 +483,13 @@ fn a_race_prints_serials_of_the_order_of_a_lane(rt: HostRuntime) -> Result<(), F
     assert_eq!(rt; alone.status, 0);
     for workers in ["1", "8"] {
         for lanes in ["1", "3"] {
-            let raced = run(&rt, rt.alloc(), &["race", workers, lanes], text.as_bytes(), 1)?;
+            let raced = run(
+                &rt,
+                rt.alloc(),
+                &["race", workers, lanes],
+                text.as_bytes(),
+                1,
+            )?;
             assert_eq!(rt; raced.status, 0, "at {workers} {lanes}");
             assert_eq!(rt; raced.out, alone.out, "at {workers} {lanes}");
         }
@@ -547,7 +553,8 @@ fn a_server_logs_a_frame_and_answers_its_sender(rt: HostRuntime) -> Result<(), F
         &mut link,
         &mut clock,
     );
-    let end = "frame 1 0180c20000030200000000aa888e01010000\n# c 4 @1 3 ok\n# f 1 0200000000aa020000010101888e020000050101000501\n";
+    let end =
+        "frame 1 0180c20000030200000000aa888e01010000\n# c 4 @1 3 ok\n# f 1 0200000000aa020000010101888e020000050101000501\n";
     assert_eq!(rt; status, 0);
     assert_eq!(rt; err.taken(), b"".as_slice());
     assert!(rt; out.taken().ends_with(end.as_bytes()));
