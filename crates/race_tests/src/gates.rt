@@ -15,8 +15,9 @@ use std::thread::Threads;
 use switch_event::{Config, PortConf};
 use trace_record::TraceRecord;
 
-// How often a thread at a gate looks for another.
-const TURNS: u32 = 10_000_000;
+// How often a thread at a gate looks for another: for a second or more, so that the other comes to
+// run where the machine has other work to do.
+const TURNS: u32 = 2_000_000_000;
 
 fn settings() -> Config {
     let mut c = Config::empty();
