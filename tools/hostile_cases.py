@@ -3,9 +3,10 @@
 
     hostile_cases.py [--short] [PROGRAM]      else crates/switch_run/out/switch_run
 
-Right packets of six kinds are changed in every way that an attacker on a wire has: each bit,
-each two bits, each octet, each length, each beginning, padding, attributes of no and of two
-octets, EAP in one to seventeen pieces; and attributes are changed by one who knows the secret.
+Right packets of six kinds, and three without a Message-Authenticator where `set require-ma off`
+lets them be, are changed in every way that an attacker on a wire has: each bit, each two bits,
+each octet, each length, each beginning, padding, attributes of no and of two octets, EAP in one
+to seventeen pieces; and attributes are changed by one who knows the secret.
 Each wrong packet has to get its named outcome, and the right one behind it has to be taken as if
 the wrong one had never come. What is wanted is worked out by script.py and outcomes.py, from the
 standards and docs/TRACE.md. About a million cases, in traces of some ten thousand records;
@@ -29,6 +30,9 @@ RECORDS_A_TRACE = 50000
 
 class Kind:
     """A kind of packet: the state in which it is right, what it is there, and how it is given."""
+
+    # Whether the switch wants a Message-Authenticator in each answer and each dynamic request.
+    need_mark = True
 
     def ready(self, script):
         """Brings the script to the state in which the packet is right."""
@@ -137,9 +141,41 @@ class Change(Dynamic):
     wants = p.tunnel(b"43")
 
 
+class BareAccept(Accept):
+    """The answer that lets a host in, without EAP and without a Message-Authenticator."""
+
+    need_mark = False
+    attributes = p.tunnel(b"42")
+
+    def signed(self, script, attributes):
+        """The answer with these attributes, under its own authenticator alone."""
+        request = script.sessions[HOST].request
+        return p.sealed(self.code, script.name % 256, request, attributes, SECRET)
+
+
+class BareDynamic(Dynamic):
+    """A dynamic request without a Message-Authenticator."""
+
+    need_mark = False
+
+    def signed(self, script, attributes):
+        """The request with these attributes, under its own authenticator alone."""
+        identifier = script.opened % 256
+        return p.sealed(self.code, identifier, bytes(16), attributes, CLIENT_SECRET)
+
+
+class BareDisconnect(BareDynamic, Disconnect):
+    """The request that ends a session, without a Message-Authenticator."""
+
+
+class BareChange(BareDynamic, Change):
+    """The request that moves a session, without a Message-Authenticator."""
+
+
 START, RESPONSE, ACCEPT, CHALLENGE = Start(), Response(), Accept(), Challenge()
 DISCONNECT, CHANGE = Disconnect(), Change()
-KINDS = [START, RESPONSE, ACCEPT, CHALLENGE, DISCONNECT, CHANGE]
+BARE_KINDS = [BareAccept(), BareDisconnect(), BareChange()]
+KINDS = [START, RESPONSE, ACCEPT, CHALLENGE, DISCONNECT, CHANGE] + BARE_KINDS
 
 
 class Run:
@@ -150,9 +186,16 @@ class Run:
         self.script = Script()
         self.cases = self.wrong = 0
 
+    def script_for(self, kind):
+        """The script that is being written, which has the settings that the kind wants."""
+        if self.script.need_mark != kind.need_mark:
+            self.flush()
+            self.script = Script(kind.need_mark)
+        return self.script
+
     def wrongs(self, kind, changes):
         """Wrong packets of a kind, in one state while that stands, then the right one twice."""
-        script = self.script
+        script = self.script_for(kind)
         kind.ready(script)
         for change in changes:
             stands = self.standing()
@@ -175,9 +218,10 @@ class Run:
 
     def signed(self, kind, attributes):
         """A packet of a kind with these attributes, rightly signed, alone in its state."""
-        kind.ready(self.script)
-        kind.give(self.script, kind.signed(self.script, attributes(self.script)))
-        self.script.frame(p.data_frame(HOST))
+        script = self.script_for(kind)
+        kind.ready(script)
+        kind.give(script, kind.signed(script, attributes(script)))
+        script.frame(p.data_frame(HOST))
         self.cases += 1
         self.end_of_case()
 
@@ -201,7 +245,7 @@ class Run:
             print(f"status {ran.returncode}, said {ran.stderr!r}")
         if ran.stdout != wanted:
             self.tell(ran.stdout.decode().split("\n"), wanted.decode().split("\n"))
-        self.script = Script()
+        self.script = Script(self.script.need_mark)
 
     def tell(self, got, wanted):
         """Tells the first lines that differ."""
@@ -239,7 +283,7 @@ def padded(length, fill):
 
 def length_of(kind):
     """How many octets the right packet of a kind has."""
-    script = Script()
+    script = Script(kind.need_mark)
     kind.ready(script)
     return len(kind.make(script))
 
@@ -302,9 +346,9 @@ def attributes_of(kind):
 
 def changed_with_the_secret(run, short, chance):
     """What one can do who knows the secret: attributes that lie, under right digests."""
-    for kind in (ACCEPT, CHALLENGE, DISCONNECT, CHANGE):
+    for kind in [ACCEPT, CHALLENGE, DISCONNECT, CHANGE] + BARE_KINDS:
         of = attributes_of(kind)
-        script = Script()
+        script = Script(kind.need_mark)
         kind.ready(script)
         right = of(script)
         values = [(at, value) for at in range(len(right)) for value in range(256)]

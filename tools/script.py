@@ -55,10 +55,16 @@ class Session:
 
 
 class Script:
-    """The lines of a trace and of its output."""
+    """The lines of a trace and of its output.
 
-    def __init__(self):
+    `need_mark` is `set require-ma`: whether a packet without a Message-Authenticator is dropped.
+    """
+
+    def __init__(self, need_mark=True):
+        self.need_mark = need_mark
         self.lines, self.wanted = list(SETTINGS), []
+        if not need_mark:
+            self.lines.insert(-1, "set require-ma off")
         self.records = self.controls = self.cases = 0
         self.sessions, self.pending, self.kept = {}, {}, []
         self.opened = self.asked = 0
@@ -185,7 +191,7 @@ class Script:
             session = self.pending.get(256 * socket + identifier)
             return session and session.request
 
-        found = o.server_answer(octets, asked, SECRET)
+        found = o.server_answer(octets, asked, SECRET, self.need_mark)
         line = f"radius {socket} {octets.hex() or '-'}"
         if isinstance(found, str):
             self.control(line, "drop " + found)
@@ -219,7 +225,8 @@ class Script:
     def dynamic(self, octets, port=4000, source=CLIENT):
         """A dynamic request of the client."""
         line = f"dyn {source} {port} {octets.hex() or '-'}"
-        drop, packet = o.dynamic_drop(octets, source == CLIENT, WINDOW, CLOCK, CLIENT_SECRET)
+        drop, packet = o.dynamic_drop(octets, source == CLIENT, WINDOW, CLOCK, CLIENT_SECRET,
+                                      self.need_mark)
         replies = [y for at, kept, y in self.kept if (at, kept) == (port, packet)]
         reply = replies[-1] if replies else None
         if packet is not None and reply is not None:

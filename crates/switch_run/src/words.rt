@@ -1,15 +1,30 @@
 // The words of the command line.
-ghost use Rattle.std.specs.Prelude.{◌≡◌, drop};
+ghost use Rattle.std.specs.Prelude.{◌≡◌, ◌≢◌, ◌×◌, [], drop, OnErr, OnOk};
+ghost use Rattle.std.specs.IoError.{error_kind};
+ghost use Rattle.std.specs.declared.io.ErrorKind.TheVariants.{OutOfMemory};
 
-use std::alloc::AllocError;
+use std::alloc::{AllocError, Global};
 use std::env;
+use std::io;
 
 /// The command line as it was given, with the program's own name; without a word where it is no text. `AllocError`:
 /// there is no memory.
 pub fn command_line(rt: &HostRuntime) -> Result<Vec<String>, AllocError> {
     match env::args(rt) {
         Ok(words) => words.collect(rt.alloc()),
-        Err(_) => Ok(Vec::new(rt.alloc())),
+        Err(error) => no_words(rt.alloc(), &error),
+    }
+}
+
+// What stands for words that the host did not give.
+fn no_words(alloc: Global, error: &io::Error) -> Result<Vec<String>, AllocError>
+    ensures no_text { OnOk result (λ words. (words ≡ []) × (error_kind error.now ≢ OutOfMemory)) }
+    ensures no_memory { OnErr result (error_kind error.now ≡ OutOfMemory) }
+{
+    if error.kind() == io::ErrorKind::OutOfMemory {
+        Err(AllocError)
+    } else {
+        Ok(Vec::new(alloc))
     }
 }
 
