@@ -1,4 +1,5 @@
 pub mod SessionLemmas
+pub mod SoughtLemmas
 pub mod AnswerLemmas
 pub mod JudgeLemmas
 pub mod ReplyLemmas

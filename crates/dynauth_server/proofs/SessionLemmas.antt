@@ -1,9 +1,8 @@
 -- A walk over the sessions, and what it has found of those that are named.
 use Rattle.std.proofs.Common.{◌≡◌, ℕ, zero, suc, ◌+◌, Bool, true, false, List, [], ◌∷◌, drop, Option, Some, None, refl, sym, ap, ◌∙◌, arith, add-one}
-use Rattle.std.specs.Prelude.{slice_get, is_some, ◌≤◌, length}
+use Rattle.std.specs.Prelude.{slice_get, is_some, ◌≤◌, length, filter}
 use Rattle.std.proofs.lemmas.List.{drop_all}
-use Rattle.radius_defs.specs.Packet.{Attribute}
-use Rattle.dynauth_defs.specs.Session.{Row, matches, matching}
+use Rattle.dynauth_defs.specs.Session.{Row}
 use Rattle.dynauth_server.specs.Found.{found, first_of_them}
 use Rattle.dynauth_server.specs.declared.session.Found.{Found}
 
@@ -30,23 +29,23 @@ none_more [] n none = let e : n + 1 ≡ suc n = add-one n in ap (λ (k : ℕ). d
 none_more (x ∷ rows) zero none = cc
 none_more (x ∷ rows) (suc n) none = let e : suc n + 1 ≡ suc (n + 1) = omega arith in ap (λ (k : ℕ). drop k (x ∷ rows)) e ∙ none_more rows n none
 
-pub passed : (attributes : List Attribute) (rows : List Row) (n : ℕ) (y : Row) → slice_get rows n ≡ Some y → matches attributes y ≡ false
-    → matching attributes (drop n rows) ≡ matching attributes (drop (n + 1) rows)
-passed attributes rows n y there other = rw (at_place rows n y there, other, add-one n) refl
+pub passed : (test : Row → Bool) (rows : List Row) (n : ℕ) (y : Row) → slice_get rows n ≡ Some y → test y ≡ false
+    → filter test (drop n rows) ≡ filter test (drop (n + 1) rows)
+passed test rows n y there other = rw (at_place rows n y there, other, add-one n) refl
 
-pub taken : (attributes : List Attribute) (rows : List Row) (n : ℕ) (y : Row) → slice_get rows n ≡ Some y → matches attributes y ≡ true
-    → matching attributes (drop n rows) ≡ y ∷ matching attributes (drop (n + 1) rows)
-taken attributes rows n y there same = rw (at_place rows n y there, same, add-one n) refl
+pub taken : (test : Row → Bool) (rows : List Row) (n : ℕ) (y : Row) → slice_get rows n ≡ Some y → test y ≡ true
+    → filter test (drop n rows) ≡ y ∷ filter test (drop (n + 1) rows)
+taken test rows n y there same = rw (at_place rows n y there, same, add-one n) refl
 
 several : (one : Option Found) (y : Row) (named : List Row) → is_some one ≡ true → after one (y ∷ named) ≡ (one, true)
 several None y named some = cc
 several (Some one) y named some = refl
 
 -- a second one is another
-pub found_again : (attributes : List Attribute) (rows : List Row) (n : ℕ) (y : Row) (one : Option Found) → slice_get rows n ≡ Some y → matches attributes y ≡ true → is_some one ≡ true
-    → after one (matching attributes (drop n rows)) ≡ first_of_them (matching attributes rows) → (one, true) ≡ first_of_them (matching attributes rows)
-found_again attributes rows n y one there same some so_far =
-    sym (ap (after one) (taken attributes rows n y there same) ∙ several one y (matching attributes (drop (n + 1) rows)) some) ∙ so_far
+pub found_again : (test : Row → Bool) (rows : List Row) (n : ℕ) (y : Row) (one : Option Found) → slice_get rows n ≡ Some y → test y ≡ true → is_some one ≡ true
+    → after one (filter test (drop n rows)) ≡ first_of_them (filter test rows) → (one, true) ≡ first_of_them (filter test rows)
+found_again test rows n y one there same some so_far =
+    sym (ap (after one) (taken test rows n y there same) ∙ several one y (filter test (drop (n + 1) rows)) some) ∙ so_far
 
 first : (one : Option Found) (y : Row) (named : List Row) → is_some one ≡ false → after (Some (found y)) named ≡ after one (y ∷ named)
 first (Some one) y named none = cc
@@ -54,13 +53,13 @@ first None y [] none = refl
 first None y (z ∷ named) none = refl
 
 -- the first one is kept in mind
-pub found_first : (attributes : List Attribute) (rows : List Row) (n : ℕ) (y : Row) (one : Option Found) → slice_get rows n ≡ Some y → matches attributes y ≡ true → is_some one ≡ false
-    → after (Some (found y)) (matching attributes (drop (n + 1) rows)) ≡ after one (matching attributes (drop n rows))
-found_first attributes rows n y one there same none =
-    first one y (matching attributes (drop (n + 1) rows)) none ∙ sym (ap (after one) (taken attributes rows n y there same))
+pub found_first : (test : Row → Bool) (rows : List Row) (n : ℕ) (y : Row) (one : Option Found) → slice_get rows n ≡ Some y → test y ≡ true → is_some one ≡ false
+    → after (Some (found y)) (filter test (drop (n + 1) rows)) ≡ after one (filter test (drop n rows))
+found_first test rows n y one there same none =
+    first one y (filter test (drop (n + 1) rows)) none ∙ sym (ap (after one) (taken test rows n y there same))
 
-pub at_end : (attributes : List Attribute) (rows : List Row) (n : ℕ) (one : Option Found) → length rows ≤ n → after one (matching attributes (drop n rows)) ≡ (one, false)
-at_end attributes rows n one past = ap (λ (left : List Row). after one (matching attributes left)) (drop_all n rows past) ∙ alone one
+pub at_end : (test : Row → Bool) (rows : List Row) (n : ℕ) (one : Option Found) → length rows ≤ n → after one (filter test (drop n rows)) ≡ (one, false)
+at_end test rows n one past = ap (λ (left : List Row). after one (filter test left)) (drop_all n rows past) ∙ alone one
   where
     alone : (one : Option Found) → after one [] ≡ (one, false)
     alone None = refl

@@ -27,25 +27,36 @@ impl CopyFrom for Session {
         self.number = other.number;
         self.host.copy_from(&other.host);
         self.vlan = other.vlan;
-        self.state = copied_state(&other.state);
+        copy_state(&mut self.state, &other.state);
         self.end_while = other.end_while;
         self.restricted = other.restricted;
     }
 }
 
-fn copied_state(state: &Option<ArrayVec<u8, 253>>) -> Option<ArrayVec<u8, 253>>
-    ensures { result ≡ state.now }
+// From now on it is as the other. Where both are there, no more is copied than the octets.
+fn copy_state(to: &mut Option<ArrayVec<u8, 253>>, from: &Option<ArrayVec<u8, 253>>)
+    ensures { to.new ≡ from.now }
 {
-    match state {
-        Some(octets) => Some(copied_octets(octets)),
-        None => None,
+    match from {
+        Some(octets) => match to {
+            Some(kept) => fill(kept, octets),
+            None => *to = Some(copied_octets(octets)),
+        },
+        None => *to = None,
     }
+}
+
+fn fill(to: &mut ArrayVec<u8, 253>, from: &ArrayVec<u8, 253>)
+    ensures { to.new ≡ from.now }
+{
+    to.clear();
+    let _fits = to.try_extend_from_slice(from.as_slice());
 }
 
 fn copied_octets(octets: &ArrayVec<u8, 253>) -> ArrayVec<u8, 253>
     ensures { result ≡ octets.now }
 {
     let mut copy = ArrayVec::new();
-    let _fits = copy.try_extend_from_slice(octets.as_slice());
+    fill(&mut copy, octets);
     copy
 }

@@ -10,13 +10,13 @@ ghost use Rattle.switch_defs.specs.Decide.{right_by};
 ghost use Rattle.switch_defs.specs.Dynamic.{say_failure, some_octets};
 ghost use Rattle.aaa_defs.specs.Request.{IsAsk};
 ghost use Rattle.aaa_defs.specs.Request as request;
-ghost use Rattle.host_session.specs.Shows.{common_in, common_of, is_aaa_idle};
+ghost use Rattle.host_session.specs.Shows.{is_aaa_idle};
 ghost use Rattle.host_session.specs.Sits.{SitsAs, right_in, state_in};
 
 use crate::session::Session;
 use aaa_client::Ask;
 use out_tray::Tray;
-use typed_session::{Common, Host};
+use typed_session::Host;
 use wire_core::Mac;
 
 impl Session {
@@ -96,7 +96,7 @@ impl Session {
             tray.new ≡ with_sent (say_failure x ∷ []) tray.old }
         ensures room { spare tray.old ≤ spare tray.new + 38 }
     {
-        if let Some(common) = common(&self.host) {
+        if let Some(common) = self.host.common() {
             let failure = [4, common.id, 0, 4];
             eap_frames::put(
                 common.port,
@@ -117,19 +117,5 @@ fn state(session: &Session) -> Option<&[u8]>
     match &session.state {
         Some(state) => Some(state.as_slice()),
         None => None,
-    }
-}
-
-// What each state of the machines holds, of a session that goes on.
-fn common(host: &Host) -> Option<&Common>
-    ensures { common_in result ≡ common_of host.now }
-{
-    match host {
-        Host::Request(a) | Host::Ignore(a) => Some(&a.common),
-        Host::Server(a) => Some(&a.common),
-        Host::GaveUp(a) => Some(&a.common),
-        Host::Authenticated(a) => Some(&a.common),
-        Host::Held(a) => Some(&a.common),
-        Host::Ended(_) => None,
     }
 }

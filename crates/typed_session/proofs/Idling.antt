@@ -9,7 +9,7 @@ use Rattle.typed_session.specs.declared.host.Host.{Host}
 use Rattle.typed_session.specs.declared.host.Host.TheVariants as host
 use Rattle.typed_session.specs.Stands.{Stands}
 use Rattle.typed_session.specs.Seconds.{Ticks, after_second, is_due, is_idle, move, time_left, wound}
-use Rattle.typed_session.specs.Reads.{abort_of, ask_of, cleared, is_ended, status_of}
+use Rattle.typed_session.specs.Reads.{cleared}
 use Rattle.typed_session.specs.Follows.{Idles, IsLetIn}
 use Rattle.typed_session.proofs.Lands.{follows, unsaid}
 use Rattle.typed_session.proofs.Shapes.{Shape, in_authenticated, in_ended, in_gave_up, in_held, in_ignore, in_request, in_server, shape, same_abort, same_ask, same_gone, same_status, stands_cleared}

@@ -3,14 +3,15 @@ ghost use Rattle.machine_vars.specs.declared.vars.Vars.{Vars as Values};
 ghost use Rattle.machine_defs.specs.Live.{Start as Begin, Logoff, Packet, Notice, Second, cleared};
 ghost use Rattle.out_tray.specs.Tray.{spare};
 ghost use Rattle.typed_session.specs.Stands.{Stands};
+ghost use Rattle.typed_session.specs.Moves.{kept_by, kept_in};
 ghost use Rattle.typed_session.specs.Reads.{ShowsIdentity, ShowsResponse, wants_of, is_server, is_held, IsTold, IsHeld};
 ghost use Rattle.typed_session.specs.Seconds.{is_idle};
 ghost use Rattle.typed_session.specs.Cares.{Cares, Named, Rests, Leaves};
 ghost use Rattle.typed_session.specs.Follows.{Follows, FollowsWord, Idles, SetsTimes};
 
-use crate::host::Host;
+use crate::host::{Common, Host};
 use crate::log_off::log_off;
-use crate::read::{clear, flags, id, identity, is_held, response, status};
+use crate::read::{clear, common, flags, id, identity, is_held, response, status};
 use crate::receive::receive;
 use crate::second::{idle, second};
 use crate::start::start;
@@ -101,6 +102,13 @@ impl Host {
         ensures { (v : Values) → Stands self.now v → result ≡ v.current_id }
     {
         id(self)
+    }
+
+    /// What each state holds, of a session that goes on; none exactly once it has ended.
+    pub fn common(&self) -> Option<&Common>
+        ensures { kept_in result ≡ kept_by self.now }
+    {
+        common(self)
     }
 
     /// Whether the host was refused, and is not asked for a while: the state HELD.

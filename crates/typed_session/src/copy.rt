@@ -1,7 +1,7 @@
 ghost use Rattle.std.specs.Prelude.{◌≡◌};
 
 use crate::common::octets;
-use crate::host::{Admitted, Closed, Common, Host, Lapsed, Refused, Served};
+use crate::host::{Admitted, Asked, Closed, Common, Host, Lapsed, Refused, Served};
 use arrayvec::ArrayVec;
 
 fn fill<const N: usize>(to: &mut ArrayVec<u8, N>, from: &ArrayVec<u8, N>)
@@ -26,6 +26,41 @@ impl Common {
         self.ask = other.ask;
         self.abort = other.abort;
         fill(&mut self.identity, &other.identity);
+    }
+}
+
+impl Asked {
+    fn copy_from(&mut self, other: &Asked)
+        ensures { self.new ≡ other.now }
+    {
+        self.common.copy_from(&other.common);
+        self.status = other.status;
+        self.tries = other.tries;
+        self.sent = other.sent;
+        self.wait = other.wait;
+        self.method = other.method;
+        self.local = other.local;
+        self.due = other.due;
+        fill(&mut self.request, &other.request);
+    }
+}
+
+impl Served {
+    fn copy_from(&mut self, other: &Served)
+        ensures { self.new ≡ other.now }
+    {
+        self.common.copy_from(&other.common);
+        self.status = other.status;
+        self.tries = other.tries;
+        self.sent = other.sent;
+        self.wait = other.wait;
+        self.method = other.method;
+        self.local = other.local;
+        self.due = other.due;
+        self.heard = other.heard;
+        fill(&mut self.request, &other.request);
+        fill(&mut self.latest, &other.latest);
+        fill(&mut self.response, &other.response);
     }
 }
 
@@ -90,12 +125,20 @@ fn replace(host: &mut Host, other: &Host)
 }
 
 impl Host {
-    /// Makes it equal to another. Of a host that is let in, as the other is, no more is copied than
-    /// what they keep.
+    /// Makes it equal to another. Where both are in the same state of those in which most hosts are, no
+    /// more is copied than what they keep.
     pub fn copy_from(&mut self, other: &Host)
         ensures { self.new ≡ other.now }
     {
         match other {
+            Host::Request(b) => match self {
+                Host::Request(a) => a.copy_from(b),
+                _ => replace(self, other),
+            },
+            Host::Server(b) => match self {
+                Host::Server(a) => a.copy_from(b),
+                _ => replace(self, other),
+            },
             Host::Authenticated(b) => match self {
                 Host::Authenticated(a) => {
                     a.common.copy_from(&b.common);
