@@ -51,13 +51,14 @@ pub enum BookErr {
 
 /// The history, what is published, and two equal authenticators: the one that turns first may be ahead of what is published,
 /// and is then set back to the other. Contracts see the settings, the history and what is published; the state is that after the
-/// history. It is not Drop, since a publisher is not: end it by `end`.
+/// history. What is large stands in boxes, since a lock moves the book at each turn. It is not Drop, since a publisher is not: end it
+/// by `end`.
 pub struct Book<A: Authenticator + Drop> {
-    config: Config,
+    config: Box<Config>,
     journal: Journal,
     publisher: Publisher,
-    first: A,
-    second: A,
+    first: Box<A>,
+    second: Box<A>,
     /// What the last turn changes for those that forward frames.
     items: Box<ArrayVec<Item, 1024>>,
     finished: bool,
@@ -69,7 +70,7 @@ impl<A: Authenticator + Drop> Model for Book<A> {
     ghost Value = { book.Book };
 
     ghost view = { λ b. record {
-      config = b.config;
+      config = b.config.value;
       name = b.publisher.name;
       list = b.journal.list;
       published = b.publisher.list;
@@ -77,12 +78,12 @@ impl<A: Authenticator + Drop> Model for Book<A> {
     } };
 
     ghost invariant = { λ b. book.IsKept A.stands A.made record {
-      config = b.config;
+      config = b.config.value;
       name = b.publisher.name;
       list = b.journal.list;
       published = b.publisher.list;
       finished = b.finished;
-    } b.publisher.first b.first b.second };
+    } b.publisher.first b.first.value b.second.value };
 }
 
 impl<A: Authenticator + Drop> Book<A> {
@@ -101,18 +102,20 @@ impl<A: Authenticator + Drop> Book<A> {
         ensures workers { IfOk result (λ r. All (λ w. (w.name ≡ r.0.name)
             × (w.first ≡ opening_table config) × (w.list ≡ [])) r.1.items) }
     {
-        let first = A::open(alloc, &config)?;
-        let second = A::open(alloc, &config)?;
+        let first = Box::new(alloc, A::open(alloc, &config)?)?;
+        let second = Box::new(alloc, A::open(alloc, &config)?)?;
         let items = Box::new(alloc, ArrayVec::new())?;
         let journal = Journal::open(alloc)?;
         let mut all = Vec::with_capacity(alloc, workers)?;
-        let (publisher, mut viewers) = open(rt, alloc, opening(&config), workers)?;
+        let table = opening(&config);
+        let settings = Box::new(alloc, config)?;
+        let (publisher, mut viewers) = open(rt, alloc, table, workers)?;
         while let Some(viewer) = viewers.pop() {
             let worker = Worker::new(viewer);
             all.push_reserved(worker);
         }
         let book = Book {
-            config,
+            config: settings,
             journal,
             publisher,
             first,

@@ -1,5 +1,5 @@
 -- Text that is put together part by part.
-use Rattle.std.proofs.Common.{◌≡◌, ℕ, zero, suc, ◌+◌, ◌/◌, ◌%◌, ◌<◌, List, [], ◌∷◌, ◌++◌, length, take, drop, get_or, codes, Some, Result, Ok, Err, refl, sym, map, ap, ap₂, ◌∙◌, arith, append_assoc, append-nil, take-append-drop}
+use Rattle.std.proofs.Common.{◌≡◌, ℕ, zero, suc, ◌+◌, ◌<◌, List, [], ◌∷◌, ◌++◌, length, take, drop, get_or, codes, Some, Result, Ok, Err, refl, sym, map, ap, ap₂, ◌∙◌, arith, append_assoc, append-nil, take-append-drop}
 use Rattle.std.specs.Prelude.{OnOk, OnErr, slice_get}
 use Rattle.std.specs.List.{concat, flat_map}
 use Rattle.std.proofs.lemmas.List.Concat.{flat_map-append}
@@ -8,7 +8,7 @@ use Rattle.std.proofs.lemmas.List.{take_more}
 use Rattle.std.proofs.lemmas.Option.{slice_get_read, slice_get_within}
 use Rattle.std.proofs.Math.Seq.{take-append_seam}
 use Rattle.std.specs.Fmt.{decimal}
-use Rattle.hex.specs.Hex.{encode_with, encode_lower, lower_digits}
+use Rattle.hex.specs.Hex.{encode_lower}
 use Rattle.switch_event.specs.declared.config.PortConf.{PortConf}
 use Rattle.switch_event.specs.Config.{Config}
 use Rattle.trace_defs.specs.declared.keyword.OtherVlan.TheVariants.{Restricted, Guest}
@@ -27,26 +27,6 @@ dotted_is (a ∷ []) four = absurd (omega arith)
 dotted_is (a ∷ b ∷ []) four = absurd (omega arith)
 dotted_is (a ∷ b ∷ c ∷ []) four = absurd (omega arith)
 dotted_is (a ∷ b ∷ c ∷ d ∷ e ∷ more) four = absurd (omega arith)
-
--- one more octet in hexadecimal digits
-encode-append : (xs ys : List ℕ) → encode_lower (xs ++ ys) ≡ encode_lower xs ++ encode_lower ys
-unfolding encode_with
-encode-append [] ys = refl
-encode-append (x ∷ xs) ys = ap (λ l. get_or lower_digits (x / 16) 0 ∷ get_or lower_digits (x % 16) 0 ∷ l) (encode-append xs ys)
-
-encode-one : (x : ℕ) → encode_lower (x ∷ []) ≡ get_or lower_digits (x / 16) 0 ∷ get_or lower_digits (x % 16) 0 ∷ []
-unfolding encode_with
-encode-one x = refl
-
-pub encode-none : encode_lower [] ≡ []
-unfolding encode_with
-encode-none = refl
-
-pub encode-more : (octets : List ℕ) (i d : ℕ) → i < length octets
-    → encode_lower (take (i + 1) octets) ≡ encode_lower (take i octets) ++ get_or lower_digits (get_or octets i d / 16) 0 ∷ get_or lower_digits (get_or octets i d % 16) 0 ∷ []
-encode-more octets i d h =
-    ap encode_lower (take_more octets i d h) ∙ encode-append (take i octets) (get_or octets i d ∷ [])
-    ∙ ap (λ l. encode_lower (take i octets) ++ l) (encode-one (get_or octets i d))
 
 -- what begins with more of a text begins with the text
 pub begins_more : (old text mid new : List ℕ) → mid ≡ old ++ text → take (length mid) new ≡ mid → take (length old) new ≡ old

@@ -8,6 +8,7 @@ ghost use Rattle.trace_defs.specs.Text as defined;
 ghost use Rattle.trace_print.specs.Pieces.{piece_text};
 
 use arrayvec::ArrayVec;
+use hex::encode_to_slice;
 use std::alloc::AllocError;
 
 /// A part of a line.
@@ -94,14 +95,13 @@ fn put_hex(octets: &[u8], out: &mut Vec<u8>) -> Result<(), AllocError>
     ensures kept { OnErr result (out.new.items ≡ out.old.items) }
 {
     out.reserve(2 * octets.len())?;
-    for octet in octets {
-        out.push_reserved(DIGITS[usize::from(*octet / 16)]);
-        out.push_reserved(DIGITS[usize::from(*octet % 16)]);
+    let start = out.len();
+    out.resize(start + 2 * octets.len(), b'0')?;
+    match encode_to_slice(octets, &mut out.as_mut_slice()[start..]) {
+        Ok(()) => Ok(()),
+        Err(_) => unreachable!(),
     }
-    Ok(())
 }
-
-const DIGITS: &[u8; 16] = b"0123456789abcdef";
 
 fn dotted(ip: &[u8; 4]) -> ArrayVec<u8, 15>
     ensures { result.items ≡ defined.dotted ip.now }

@@ -1,4 +1,6 @@
-use Rattle.std.proofs.Common.{rules, ◌≡◌, [], ◌∷◌, ◌++◌, length, All, ap, ◌∙◌, sym, subst, arith, length-append}
+use Rattle.std.proofs.Common.{rules, ◌≡◌, true, [], ◌∷◌, ◌++◌, length, All, ap, ◌∙◌, sym, subst, arith, length-append}
+use Rattle.switch_event.specs.Config.{is_valid}
+use Rattle.switch_defs.specs.Switch.{opening}
 use Rattle.auth_publish.specs.Feeds.{Feed}
 use Rattle.table_defs.specs.Table.{opening_table}
 use Rattle.book_lock.proofs.Lists.{all_last, all_front, all_end}
@@ -8,8 +10,11 @@ use Rattle.switch_book.proofs.book.Book.open.Goals as goal
 pub invariant_of-book : goal.invariant_of-book
 invariant_of-book g c =
     let inv = c.loop-viewer.invariant in
-    kept_opened g.A.Authenticator.stands g.A.Authenticator.made c.args.config _ _ _ _ _ _ c.requires.valid c.in_ok-journal.ensures.0 inv.3 inv.2
-    c.in_ok-first.ensures.stands c.in_ok-second.ensures.stands c.in_ok-first.ensures.made c.in_ok-second.ensures.made
+    let A = g.A.Authenticator in
+    let same : c.args.config ≡ c.in_ok-settings.settings.value = search rules in
+    let opens : (core : _) → A.stands core (opening c.args.config) → A.stands core (opening c.in_ok-settings.settings.value) = λ core s. subst (λ k. A.stands core (opening k)) same s in
+    kept_opened A.stands A.made c.in_ok-settings.settings.value _ _ _ _ _ _ (subst (λ k. is_valid k ≡ true) same c.requires.valid) c.in_ok-journal.ensures.0 inv.3 (inv.2 ∙ ap opening_table same)
+    (opens _ (search rules)) (opens _ (search rules)) (search rules) (search rules)
 
 pub loop-viewer-preserved : goal.loop-viewer-preserved
 loop-viewer-preserved g c =
@@ -28,4 +33,16 @@ loop-viewer-preserved g c =
       inv.3,
       subst (All P) (sym c.push_reserved.ensures.items) (all_last P c.loop-viewer.all.items worker inv.4 (subst P (sym same) one)),
       all_front P front viewer all,
+    )
+
+pub loop-viewer-init : goal.loop-viewer-init
+loop-viewer-init g c =
+    let p = c.in_ok-publisher.publisher in
+    let table : c.opening-table.result ≡ opening_table c.args.config = c.opening-table.ensures in (
+      search rules,
+      search rules,
+      c.in_ok-publisher.ensures.publisher.0 ∙ table,
+      c.in_ok-publisher.ensures.publisher.1,
+      search rules,
+      λ k d l. let is : _ ≡ p = c.in_ok-publisher.ensures.viewers k d l in (ap (λ f. f.name) is, ap (λ f. f.first) is ∙ c.in_ok-publisher.ensures.publisher.0 ∙ table, ap (λ f. f.list) is ∙ c.in_ok-publisher.ensures.publisher.1),
     )
