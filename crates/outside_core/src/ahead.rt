@@ -2,7 +2,7 @@
 ghost use Rattle.std.specs.Prelude.{◌≡◌, ◌≤◌, ◌<◌, ◌==◌, ◌↔◌, position, [], ◌∷◌, List, ℕ, ◌++◌, length, take, drop, min, slice_range, IsTrue, OnErr, OnOk, MatchResult};
 ghost use Rattle.std.specs.Io.{ReadsAtMost};
 ghost use Rattle.std.specs.Io.KnownBytes.{Keeps, Consumes, IsAtEnd, ReadConsumes};
-ghost use Rattle.outside_core.specs.Lines.{StopsAtFeed};
+ghost use Rattle.outside_core.specs.Lines.{StopsAtFeed, line_length};
 
 use crate::Failed;
 use std::io::{ErrorKind, Read};
@@ -89,7 +89,7 @@ impl Ahead {
     /// feed, and answers how many.
     pub fn give_line(&mut self, buf: &mut [u8]) -> usize
         ensures octets { self.old ≡ take result buf.new ++ self.new }
-        ensures most { result ≤ length buf.old }
+        ensures most { result ≡ min (line_length self.old) (length buf.old) }
         ensures some { result ≡ 0 → 0 < length buf.old → self.old ≡ [] }
         ensures line { StopsAtFeed result buf.new }
     {
@@ -130,6 +130,7 @@ fn read_again<R: Read>(reader: &mut R, buf: &mut [u8]) -> Result<usize, Failed>
 
 /// How many octets stand up to the first line feed, with it; all where there is none.
 pub fn line_len(octets: &[u8]) -> usize
+    ensures value { result ≡ line_length octets.now }
     ensures most { result ≤ length octets.now }
     ensures some { result ≡ 0 → octets.now ≡ [] }
     ensures line { StopsAtFeed result octets.now }

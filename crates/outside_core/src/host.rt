@@ -1,8 +1,10 @@
 // A source and a sink over the streams of the host.
-ghost use Rattle.std.specs.Prelude.{◌≡◌, [], length, IfOk, OnOk};
-ghost use Rattle.std.specs.Io.{WritesAtMost};
-ghost use Rattle.std.specs.Io.KnownBytes.{Keeps, IsAtEnd, WriteAppends, prepend_known};
-ghost use Rattle.wire_defs.specs.Outside.{HasCause};
+ghost use Rattle.std.specs.Prelude.{◌≡◌, [], length, IfOk, IsErr, OnOk};
+ghost use Rattle.std.specs.Io.{ReadsAtMost, WritesAtMost};
+ghost use Rattle.std.specs.Io.KnownBytes.{Keeps, IsAtEnd, ReadConsumes, WriteAppends, prepend_known};
+ghost use Rattle.wire_defs.specs.Outside.{HasCause, TakesSome};
+ghost use Rattle.outside_core.specs.Counts.{count_after};
+ghost use Rattle.outside_core.specs.Lines.{StopsAtFeed};
 
 use crate::ahead::Ahead;
 use crate::{Failed, Sink, Source};
@@ -38,6 +40,8 @@ impl<R: Read> StdSource<R> {
         ensures octets { Keeps (prepend_known self.old.ahead (R.remaining self.old.reader))
             (prepend_known self.new.ahead (R.remaining self.new.reader)) }
         ensures end { OnOk result (self.new.ahead ≡ [] → IsAtEnd (R.remaining self.new.reader)) }
+        ensures sure { IsErr result → self.old.ahead ≡ [] }
+        ensures count { self.new.faults ≡ count_after result self.old.faults }
         ensures cause { HasCause self.old.faults self.new.faults result }
     {
         if self.ahead.is_empty() {
@@ -55,12 +59,27 @@ impl<R: Read> Source for StdSource<R> {
 
     ghost faults = { λ s. s.faults };
 
-    fn read(&mut self, buf: &mut [u8]) -> Result<usize, Failed> {
+    fn read(&mut self, buf: &mut [u8]) -> Result<usize, Failed>
+        ensures bound { ReadsAtMost result buf.new }
+        ensures octets { ReadConsumes (prepend_known self.old.ahead (R.remaining self.old.reader))
+            (prepend_known self.new.ahead (R.remaining self.new.reader)) result buf.new }
+        ensures sure { IsErr result → self.old.ahead ≡ [] }
+        ensures count { self.new.faults ≡ count_after result self.old.faults }
+        ensures cause { HasCause self.old.faults self.new.faults result }
+    {
         self.look_ahead()?;
         Ok(self.ahead.give(buf))
     }
 
-    fn read_line(&mut self, buf: &mut [u8]) -> Result<usize, Failed> {
+    fn read_line(&mut self, buf: &mut [u8]) -> Result<usize, Failed>
+        ensures bound { ReadsAtMost result buf.new }
+        ensures octets { ReadConsumes (prepend_known self.old.ahead (R.remaining self.old.reader))
+            (prepend_known self.new.ahead (R.remaining self.new.reader)) result buf.new }
+        ensures sure { IsErr result → self.old.ahead ≡ [] }
+        ensures count { self.new.faults ≡ count_after result self.old.faults }
+        ensures cause { HasCause self.old.faults self.new.faults result }
+        ensures line { IfOk result (λ n. StopsAtFeed n buf.new) }
+    {
         self.look_ahead()?;
         Ok(self.ahead.give_line(buf))
     }
@@ -90,7 +109,15 @@ impl<W: Write> Sink for StdSink<W> {
 
     ghost faults = { λ s. s.faults };
 
-    fn write(&mut self, piece: &[u8]) -> Result<usize, Failed> {
+    fn write(&mut self, piece: &[u8]) -> Result<usize, Failed>
+        ensures bound { WritesAtMost result piece.now }
+        ensures octets { WriteAppends (W.contents self.old.writer) (W.contents self.new.writer)
+            result piece.now }
+        ensures takes { IfOk result (λ n. n ≡ 0 → length piece.now ≡ 0) }
+        ensures some { TakesSome self.old.faults self.new.faults result piece.now }
+        ensures count { self.new.faults ≡ count_after result self.old.faults }
+        ensures cause { HasCause self.old.faults self.new.faults result }
+    {
         match write_again(&mut self.writer, piece) {
             Ok(count) => Ok(count),
             Err(Failed) => {

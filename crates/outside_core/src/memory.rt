@@ -2,7 +2,7 @@ ghost use Rattle.std.specs.Prelude.{◌≡◌, ◌+◌, ◌-◌, ◌<◌, ◌≤
 ghost use Rattle.std.specs.Io.{ReadsAtMost, WritesAtMost};
 ghost use Rattle.std.specs.Io.KnownBytes.{ReadConsumes, WriteAppends};
 ghost use Rattle.wire_defs.specs.Outside.{HasCause, TakesSome, Feed, Drain, after_read, after_write};
-ghost use Rattle.outside_core.specs.Lines.{StopsAtFeed};
+ghost use Rattle.outside_core.specs.Lines.{StopsAtFeed, line_length};
 
 use crate::ahead::line_len;
 use crate::{Failed, Sink, Source};
@@ -96,6 +96,8 @@ impl Source for MemSource {
         ensures cause { HasCause self.old.faults self.new.faults result }
         ensures line { IfOk result (λ n. StopsAtFeed n buf.new) }
         ensures listed { IsErr result ↔ Contains self.old.fails self.old.calls }
+        ensures most { IfOk result (λ n.
+            n ≡ min (min (line_length self.old.left) (length buf.old)) self.old.step) }
         ensures value { self.new ≡ after_read result self.old }
     {
         let rest = &self.octets[self.at..];

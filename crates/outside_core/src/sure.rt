@@ -1,24 +1,24 @@
 // A source and a sink in memory that do not fail.
-ghost use Rattle.std.specs.Prelude.{◌≡◌, ◌+◌, ◌≤◌, [], List, ℕ, Some, length, IfOk, IsOk};
+ghost use Rattle.std.specs.Prelude.{◌≡◌, ◌+◌, ◌<◌, ◌≤◌, ◌↔◌, [], Some, length, min, IfOk, IsErr, IsOk};
 ghost use Rattle.std.specs.Io.{ReadsAtMost, WritesAtMost};
 ghost use Rattle.std.specs.Io.KnownBytes.{ReadConsumes, WriteAppends};
-ghost use Rattle.wire_defs.specs.Outside.{HasCause, TakesSome, Drain};
-ghost use Rattle.outside_core.specs.Lines.{StopsAtFeed};
+ghost use Rattle.wire_defs.specs.Outside.{HasCause, TakesSome, Drain, Feed, after_read, after_write};
+ghost use Rattle.outside_core.specs.Lines.{StopsAtFeed, line_length};
 
 use crate::{Failed, MemSink, MemSource, Sink, Source};
 use std::alloc::{AllocError, Global};
 use std::marker::Model;
 
-/// A source in memory that never fails. Contracts see the octets that are left.
+/// A source in memory that never fails.
 #[derive(Drop)]
 pub struct SureSource {
     source: MemSource,
 }
 
 impl Model for SureSource {
-    ghost Value = { List ℕ };
+    ghost Value = { Feed };
 
-    ghost view = { λ s. s.source.left };
+    ghost view = { λ s. s.source };
 
     ghost invariant = { λ s. s.source.fails ≡ [] };
 }
@@ -27,7 +27,13 @@ impl SureSource {
     /// A source of these octets, of which one read gives at most `step`.
     pub fn new(alloc: Global, octets: &[u8], step: usize) -> Result<SureSource, AllocError>
         requires { 1 ≤ step }
-        ensures { IfOk result (λ left. left ≡ octets.now) }
+        ensures { IfOk result (λ s. s ≡ record {
+          left = octets.now;
+          step = step;
+          fails = [];
+          calls = 0;
+          faults = 0;
+        }) }
     {
         let source = MemSource::new(alloc, octets, step, &[])?;
         Ok(SureSource { source })
@@ -35,15 +41,18 @@ impl SureSource {
 }
 
 impl Source for SureSource {
-    ghost left = { λ left. Some left };
+    ghost left = { λ s. Some s.left };
 
-    ghost faults = { λ _. 0 };
+    ghost faults = { λ s. s.faults };
 
     fn read(&mut self, buf: &mut [u8]) -> Result<usize, Failed>
         ensures sure { IsOk result }
         ensures bound { ReadsAtMost result buf.new }
-        ensures octets { ReadConsumes (Some self.old) (Some self.new) result buf.new }
-        ensures cause { HasCause 0 0 result }
+        ensures octets { ReadConsumes (Some self.old.left) (Some self.new.left) result buf.new }
+        ensures cause { HasCause self.old.faults self.new.faults result }
+        ensures most { IfOk result (λ n.
+            n ≡ min (min (length self.old.left) (length buf.old)) self.old.step) }
+        ensures value { self.new ≡ after_read result self.old }
     {
         self.source.read(buf)
     }
@@ -51,9 +60,12 @@ impl Source for SureSource {
     fn read_line(&mut self, buf: &mut [u8]) -> Result<usize, Failed>
         ensures sure { IsOk result }
         ensures bound { ReadsAtMost result buf.new }
-        ensures octets { ReadConsumes (Some self.old) (Some self.new) result buf.new }
-        ensures cause { HasCause 0 0 result }
+        ensures octets { ReadConsumes (Some self.old.left) (Some self.new.left) result buf.new }
+        ensures cause { HasCause self.old.faults self.new.faults result }
         ensures line { IfOk result (λ n. StopsAtFeed n buf.new) }
+        ensures most { IfOk result (λ n.
+            n ≡ min (min (line_length self.old.left) (length buf.old)) self.old.step) }
+        ensures value { self.new ≡ after_read result self.old }
     {
         self.source.read_line(buf)
     }
@@ -102,12 +114,13 @@ impl Sink for SureSink {
     ghost faults = { λ s. s.faults };
 
     fn write(&mut self, piece: &[u8]) -> Result<usize, Failed>
-        ensures sure { length self.old.taken + length piece.now ≤ self.old.room → IsOk result }
-        ensures room { self.new.room ≡ self.old.room }
         ensures bound { WritesAtMost result piece.now }
         ensures octets { WriteAppends (Some self.old.taken) (Some self.new.taken) result piece.now }
         ensures some { TakesSome self.old.faults self.new.faults result piece.now }
         ensures cause { HasCause self.old.faults self.new.faults result }
+        ensures fails { IsErr result ↔ (self.old.room < length self.old.taken + length piece.now) }
+        ensures whole { IfOk result (λ n. n ≡ length piece.now) }
+        ensures value { self.new ≡ after_write result piece.now self.old }
     {
         self.sink.write(piece)
     }

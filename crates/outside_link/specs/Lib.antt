@@ -2,3 +2,4 @@ pub mod Link
 pub mod Clock
 pub mod Post
 pub mod Stored
+pub mod Sockets

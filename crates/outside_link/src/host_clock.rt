@@ -1,5 +1,6 @@
 // The clock of the host.
-ghost use Rattle.std.specs.Prelude.{None};
+ghost use Rattle.std.specs.Prelude.{◌≡◌, None};
+ghost use Rattle.outside_link.specs.Clock.{Tells};
 
 use crate::Clock;
 use std::time::{Clock as HostTime, SystemTime, UNIX_EPOCH};
@@ -14,7 +15,10 @@ pub struct HostClock<'a, C> {
 
 impl<'a, C: HostTime> HostClock<'a, C> {
     /// A clock over that of the host.
-    pub fn new(clock: &'a C) -> Self {
+    pub fn new(clock: &'a C) -> Self
+        ensures clock { result.clock.now ≡ clock.now }
+        ensures last { result.last ≡ 0 }
+    {
         HostClock { clock, last: 0 }
     }
 }
@@ -22,7 +26,10 @@ impl<'a, C: HostTime> HostClock<'a, C> {
 impl<'a, C: HostTime> Clock for HostClock<'a, C> {
     ghost moments = { λ _. None };
 
-    fn now(&mut self) -> u64 {
+    fn now(&mut self) -> u64
+        ensures told { Tells None None result }
+        ensures kept { self.new ≡ record self.old { last = result } }
+    {
         if let Ok(time) = SystemTime::now(self.clock)
             && let Ok(since) = time.duration_since(UNIX_EPOCH)
         {

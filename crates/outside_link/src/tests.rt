@@ -3,8 +3,12 @@
 ghost use Rattle.std.specs.Prelude.{◌≤◌};
 
 use crate::{Addr, CHANNELS, Clock, Failed, HostClock, Link, ListClock, MemLink, UdpLink};
+use std::cell::Cell;
+use std::io;
+use std::io::ErrorKind;
 use std::net::Net;
 use std::test::Fail;
+use std::time::{Clock as HostTime, Duration};
 
 fn local(port: u16) -> Addr {
     Addr {
@@ -101,4 +105,35 @@ fn the_clock_of_the_host_does_not_stand_at_0(rt: HostRuntime) {
     let first = clock.now();
     assert!(rt; first > 1_700_000_000);
     assert!(rt; clock.now() >= first);
+}
+
+// A host whose clock can be read once.
+#[derive(Drop)]
+struct ReadOnce {
+    is_read: Cell<bool>,
+}
+
+impl HostTime for ReadOnce {
+    fn monotonic(&self) -> io::Result<Duration> {
+        Err(ErrorKind::Unsupported.into())
+    }
+
+    fn since_1970(&self) -> io::Result<Duration> {
+        if self.is_read.replace(true) {
+            return Err(ErrorKind::Unsupported.into());
+        }
+        Ok(Duration::from_millis(1_700_000_000_999))
+    }
+}
+
+#[test]
+fn a_clock_that_cannot_be_read_stands_still(rt: HostRuntime) {
+    let host = ReadOnce {
+        is_read: Cell::new(false),
+    };
+    let mut clock = HostClock::new(&host);
+    assert_eq!(rt; clock.now(), 1_700_000_000);
+    assert_eq!(rt; clock.now(), 1_700_000_000);
+    let mut late = HostClock::new(&host);
+    assert_eq!(rt; late.now(), 0);
 }

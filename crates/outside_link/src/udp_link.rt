@@ -1,12 +1,14 @@
 // Datagrams over the sockets of the host.
-ghost use Rattle.std.specs.Prelude.{◌≡◌, ◌+◌, ◌-◌, ◌<◌, ◌≤◌, ◌^◌, min, None, length, OnOk, IfOk, IfSome};
+ghost use Rattle.std.specs.Prelude.{◌≡◌, ◌≤◌, List, None, Some, false, replicate};
 ghost use Rattle.wire_defs.specs.Outside.{HasCause, risen};
-ghost use Rattle.outside_link.specs.Link.{ReceivesAtMost};
+ghost use Rattle.outside_core.specs.Counts.{count_after};
+ghost use Rattle.outside_link.specs.Link.{Binds, Incoming, NeedsBound, NeedsChannel, Outgoing, Receives, ReceivesAtMost, Same, Sends};
 
 use crate::{CHANNELS, Link};
 use outside_core::Failed;
 use std::io;
 use std::io::ErrorKind;
+use std::marker::Model;
 use std::net::{IpAddr, Ipv4Addr, Net, SocketAddr, UdpSocket};
 use std::time::Duration;
 use wire_core::Addr;
@@ -15,7 +17,8 @@ use wire_core::Addr;
 // asked.
 const PAUSE: u64 = 2;
 
-/// Six sockets of UDP on 127.0.0.1. It tells nothing of what they bring and take.
+/// Six sockets of UDP on 127.0.0.1. It tells which of its channels are bound, and nothing of what
+/// they bring and take.
 ///
 /// A receive does not wait, with one exception: where the five receives before it, one for each of
 /// the other channels, had nothing, it waits for about two milliseconds. So a server that asks the
@@ -28,10 +31,21 @@ pub struct UdpLink {
     faults: u64,
 }
 
+impl Model for UdpLink {
+    ghost use Rattle.std.specs.Prelude.{map, length, ◌≡◌};
+    ghost use Rattle.outside_link.specs.Sockets.{Sockets, is_open};
+
+    ghost Value = { Sockets };
+
+    ghost view = { λ s. record { bound = map is_open s.sockets; faults = s.faults } };
+
+    ghost invariant = { λ s. length s.sockets ≡ 6 };
+}
+
 impl UdpLink {
     /// A link none of whose channels is bound.
     pub fn new() -> Self
-        ensures { result.faults ≡ 0 }
+        ensures { result ≡ record { bound = replicate 6 false; faults = 0 } }
     {
         UdpLink {
             sockets: [None, None, None, None, None, None],
@@ -54,11 +68,18 @@ impl Link for UdpLink {
 
     ghost waits = { λ _. None };
 
-    ghost bound = { λ _. None };
+    ghost bound = { λ s. Some s.bound };
 
     ghost faults = { λ s. s.faults };
 
-    fn bind<R: Net>(&mut self, rt: &R, channel: u8, port: u16) -> Result<(), Failed> {
+    fn bind<R: Net>(&mut self, rt: &R, channel: u8, port: u16) -> Result<(), Failed>
+        ensures sent { Same {A = List Outgoing} None None }
+        ensures waits { Same {A = List (List Incoming)} None None }
+        ensures bound { Binds (Some self.old.bound) (Some self.new.bound) channel result }
+        ensures absent { NeedsChannel (Some self.old.bound) channel result }
+        ensures count { self.new.faults ≡ count_after result self.old.faults }
+        ensures cause { HasCause self.old.faults self.new.faults result }
+    {
         let at = usize::from(channel);
         if at >= CHANNELS {
             return Err(self.fault());
@@ -72,7 +93,14 @@ impl Link for UdpLink {
         }
     }
 
-    fn send<R: Net>(&mut self, _rt: &R, channel: u8, to: Addr, piece: &[u8]) -> Result<(), Failed> {
+    fn send<R: Net>(&mut self, _rt: &R, channel: u8, to: Addr, piece: &[u8]) -> Result<(), Failed>
+        ensures sent { Sends None None channel to piece.now result }
+        ensures waits { Same {A = List (List Incoming)} None None }
+        ensures bound { Same (Some self.old.bound) (Some self.new.bound) }
+        ensures unbound { NeedsBound (Some self.old.bound) channel result }
+        ensures count { self.new.faults ≡ count_after result self.old.faults }
+        ensures cause { HasCause self.old.faults self.new.faults result }
+    {
         match self.sockets.get(usize::from(channel)) {
             Some(Some(socket)) if send_whole(socket, to, piece) => Ok(()),
             _ => Err(self.fault()),
@@ -84,7 +112,15 @@ impl Link for UdpLink {
         _rt: &R,
         channel: u8,
         buf: &mut [u8],
-    ) -> Result<Option<(Addr, usize)>, Failed> {
+    ) -> Result<Option<(Addr, usize)>, Failed>
+        ensures most { ReceivesAtMost result buf.new }
+        ensures sent { Same {A = List Outgoing} None None }
+        ensures waits { Receives None None channel result buf.new }
+        ensures bound { Same (Some self.old.bound) (Some self.new.bound) }
+        ensures unbound { NeedsBound (Some self.old.bound) channel result }
+        ensures count { self.new.faults ≡ count_after result self.old.faults }
+        ensures cause { HasCause self.old.faults self.new.faults result }
+    {
         let waits = self.idle >= CHANNELS - 1;
         let received = match self.sockets.get(usize::from(channel)) {
             Some(Some(socket)) => receive(socket, waits, buf),

@@ -1,7 +1,7 @@
-use Rattle.std.proofs.Common.{◌≡◌, ◌≤◌, ◌-◌, length, take, drop, take_all, ap, ◌∙◌, subst, arith, length-drop, length-take}
+use Rattle.std.proofs.Common.{◌≡◌, ◌≤◌, ◌-◌, length, min, take, drop, take_all, ap, ◌∙◌, subst, arith, length-drop, length-take}
 use Rattle.std.proofs.lemmas.List.{nil_from_length, length-take-le}
-use Rattle.outside_core.specs.Lines.{StopsAtFeed}
-use Rattle.outside_core.proofs.Feeds.{read_front, read_stops}
+use Rattle.outside_core.specs.Lines.{StopsAtFeed, line_length}
+use Rattle.outside_core.proofs.Feeds.{line_of_part, read_front, read_most, read_stops}
 use Rattle.outside_core.proofs.memory.MemSourceSource.read_line.Goals as goal
 
 -- the octets that the source has
@@ -26,3 +26,13 @@ returns-clause-octets c = read_front c.read.result c.args.self.now.left c.read.n
 pub returns-clause-line : goal.returns-clause-line
 returns-clause-line c = read_stops c.read.result c.line_len-count.result c.min-most.result c.args.self.now.left c.read.new.self.left c.read.new.buf _ c.read.ensures.bound c.read.ensures.octets (front c) (long c)
     (subst (λ l. StopsAtFeed c.line_len-count.result (take c.min-most.result l)) (held c) c.line_len-count.ensures.line)
+
+pub returns-clause-most : goal.returns-clause-most
+returns-clause-most c =
+    let count = c.line_len-count.result in
+    let most = c.min-most.result in
+    let fits : length (take count c.args.buf.now) ≡ count = length-take-le count c.args.buf.now (omega (arith, long c, c.min-most.ensures)) in
+    let line : count ≡ min (line_length c.args.self.now.left) most =
+    c.line_len-count.ensures.value ∙ line_of_part most _ ∙ ap (λ l. min (line_length l) most) (held c) in
+    read_most c.read.result count most c.args.self.now.left (take count c.args.buf.now) c.args.buf.now c.args.self.now.step c.read.ensures.most fits line
+    (c.min-most.ensures ∙ ap (λ l. min (length l) (length c.args.buf.now)) (held c))
