@@ -112,11 +112,8 @@ fn worker_jobs<A: Authenticator + Drop>(
     ensures names { All (IsFor _book.now.name _book.now.config) result.items }
 {
     while let Some(worker) = workers.pop() {
-        jobs.push_reserved(WorkerJob {
-            worker,
-            decided: Blocks::new(alloc),
-            failed: false,
-        });
+        let job = WorkerJob::new(alloc, worker);
+        jobs.push_reserved(job);
     }
     jobs
 }

@@ -12,7 +12,7 @@ use arrayvec::ArrayVec;
 use block_list::Blocks;
 use forward_worker::Worker;
 use outside_core::{Gate, Point, Who};
-use std::alloc::AllocError;
+use std::alloc::{AllocError, Global};
 use std::thread;
 use std::thread::Threads;
 use trace_record::TraceRecord;
@@ -25,23 +25,25 @@ pub struct WorkerJob {
     pub decided: Blocks,
     /// There was no memory.
     pub failed: bool,
+    // Two lines of a cache, so that no two workers write into one.
+    apart: [u64; 16],
 }
 
-// Decides on a frame of this worker, and prints its block.
+// Decides on a frame of this worker, and prints its block. What leaves is put together in `tagged`.
 fn decide(
     worker: &mut Worker,
     number: u64,
     port: u8,
     frame: &[u8],
     decided: &mut Blocks,
+    tagged: &mut ArrayVec<u8, 1522>,
 ) -> Result<(), AllocError>
     ensures same { (worker.new.name ≡ worker.old.name) × (worker.new.first ≡ worker.old.first) }
     ensures grows { IsPrefix worker.old.list worker.new.list }
     ensures heard { (x : DataRecord) → x.number ≡ number → x.port ≡ port → x.octets ≡ frame.now
         → IfOk result (λ _. Heard worker.old.first worker.new.list x decided.old decided.new) }
 {
-    let mut tagged = ArrayVec::new();
-    let one = worker.forward(port, frame, &mut tagged)?;
+    let one = worker.forward(port, frame, tagged)?;
     decided.add_data(number, &one, tagged.as_slice())
 }
 
@@ -54,6 +56,7 @@ fn take<G: Gate>(
     number: u64,
     what: &TraceRecord,
     decided: &mut Blocks,
+    tagged: &mut ArrayVec<u8, 1522>,
 ) -> Result<(), AllocError>
     requires workers { (1 ≤ workers) × (workers ≤ 8) }
     ensures same { (worker.new.name ≡ worker.old.name) × (worker.new.first ≡ worker.old.first) }
@@ -66,7 +69,7 @@ fn take<G: Gate>(
 {
     if let TraceRecord::Data { port, octets } = what {
         if serving_worker(workers, *port) == share {
-            decide(worker, number, *port, octets.as_slice(), decided)?;
+            decide(worker, number, *port, octets.as_slice(), decided, tagged)?;
             gate.at(Who::Worker(share as u8 + 1), Point::Decided);
         }
     }
@@ -91,6 +94,7 @@ fn take_all<G: Gate>(
     ensures hears { IfOk result (λ _. Hears worker.old.first worker.old.list worker.new.list
         (datas_of workers share (numbered first (entered_all records.now))) decided.new) }
 {
+    let mut tagged = ArrayVec::new();
     for i in 0..records.len() {
         let what = record_at(records, i);
         take(
@@ -101,12 +105,25 @@ fn take_all<G: Gate>(
             first + i as u64,
             what,
             decided,
+            &mut tagged,
         )?;
     }
     Ok(())
 }
 
 impl WorkerJob {
+    /// A worker that has printed nothing.
+    pub fn new(alloc: Global, worker: Worker) -> WorkerJob
+        ensures { result.worker ≡ worker }
+    {
+        WorkerJob {
+            worker,
+            decided: Blocks::new(alloc),
+            failed: false,
+            apart: [0; 16],
+        }
+    }
+
     fn run<G: Gate>(
         &mut self,
         gate: &G,
