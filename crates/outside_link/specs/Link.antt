@@ -1,5 +1,5 @@
 -- What a link tells: the datagrams that wait and those that were sent.
-use Rattle.std.specs.Prelude.{◌≡◌, ⊤, ℕ, ◌≤◌, min, Bool, true, false, List, [], ◌∷◌, ◌++◌, length, take, drop, slice_set, slice_index_or, Option, Some, None, IfSome, Result, Ok, Err, IfOk, IsErr, MatchResult}
+use Rattle.std.specs.Prelude.{◌≡◌, ⊤, ℕ, ◌≤◌, min, List, [], ◌∷◌, ◌++◌, length, take, drop, slice_set, slice_index_or, Option, Some, None, IfSome, Result, Ok, Err, IfOk, IsErr, MatchResult}
 use Rattle.wire_core.specs.declared.address.Addr.{Addr}
 
 -- what was told is as before
@@ -40,24 +40,26 @@ abbrev pub without_first : ℕ → List (List Incoming) → List (List Incoming)
 without_first channel waits =
     slice_set waits channel (drop 1 (slice_index_or waits channel []))
 
--- a bind makes its channel bound
-abbrev pub Binds : {T E : Type 0} → Option (List Bool) → Option (List Bool) →
-    (channel : ℕ) → Result T E → Type 0
-Binds None new channel result = ⊤
-Binds (Some old) None channel result = ⊥
-Binds (Some old) (Some new) channel (Ok done) = new ≡ slice_set old channel true
-Binds (Some old) (Some new) channel (Err e) = new ≡ old
+-- the ports of a link's channels, and None for one that is not bound
+abbrev pub Ports : Type 0
+Ports = List (Option ℕ)
+
+-- a bind gives its channel the port
+abbrev pub Binds : {T E : Type 0} → Option Ports → Option Ports → (channel port : ℕ) →
+    Result T E → Type 0
+Binds None new channel port result = ⊤
+Binds (Some old) None channel port result = ⊥
+Binds (Some old) (Some new) channel port (Ok done) = new ≡ slice_set old channel (Some port)
+Binds (Some old) (Some new) channel port (Err e) = new ≡ old
 
 -- a call fails on a channel that the link does not have
-abbrev pub NeedsChannel : {T E : Type 0} → Option (List Bool) → (channel : ℕ) →
-    Result T E → Type 0
+abbrev pub NeedsChannel : {T E : Type 0} → Option Ports → (channel : ℕ) → Result T E → Type 0
 NeedsChannel bound channel result = IfSome bound (λ b. length b ≤ channel → IsErr result)
 
 -- a call fails on a channel that is not bound, and on one that the link does not have
-abbrev pub NeedsBound : {T E : Type 0} → Option (List Bool) → (channel : ℕ) →
-    Result T E → Type 0
+abbrev pub NeedsBound : {T E : Type 0} → Option Ports → (channel : ℕ) → Result T E → Type 0
 NeedsBound bound channel result =
-    IfSome bound (λ b. slice_index_or b channel false ≡ false → IsErr result)
+    IfSome bound (λ b. slice_index_or b channel None ≡ None → IsErr result)
 
 -- a send appends its datagram
 abbrev pub Sends : {T E : Type 0} → Option (List Outgoing) → Option (List Outgoing) →

@@ -1,11 +1,13 @@
 -- A link over the sockets of the host.
-use Rattle.std.specs.Prelude.{ℕ, Bool, true, false, List, Option, Some, None}
+use Rattle.std.specs.Prelude.{ℕ, Option, Some, None}
+use Rattle.outside_link.specs.Link.{Ports}
 
--- which channels are bound, and the faults
+-- the ports that are bound, and the faults
 pub record Sockets : Type 0 where
-  pub bound : List Bool
+  pub bound : Ports
   pub faults : ℕ
 
-abbrev pub is_open : {S : Type 0} → Option S → Bool
-is_open None = false
-is_open (Some socket) = true
+-- a socket is kept with its port
+abbrev pub port_of : {S : Type 0} → Option (ℕ × S) → Option ℕ
+port_of None = None
+port_of (Some (port, socket)) = Some port

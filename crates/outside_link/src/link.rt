@@ -1,6 +1,6 @@
-ghost use Rattle.std.specs.Prelude.{Bool, List, ℕ, Option};
+ghost use Rattle.std.specs.Prelude.{List, ℕ, Option};
 ghost use Rattle.wire_defs.specs.Outside.{HasCause};
-ghost use Rattle.outside_link.specs.Link.{Binds, Incoming, NeedsBound, NeedsChannel, Outgoing, Receives, ReceivesAtMost, Same, Sends};
+ghost use Rattle.outside_link.specs.Link.{Binds, Incoming, NeedsBound, NeedsChannel, Outgoing, Ports, Receives, ReceivesAtMost, Same, Sends};
 
 use outside_core::Failed;
 use std::net::Net;
@@ -17,8 +17,8 @@ pub trait Link {
     /// The datagrams that wait on each channel, where it tells them.
     ghost waits: { Self → Option (List (List Incoming)) };
 
-    /// Which channels are bound, where it tells that.
-    ghost bound: { Self → Option (List Bool) };
+    /// The port that each channel is bound to, where it tells that.
+    ghost bound: { Self → Option Ports };
 
     /// How often it has failed. The count stays at 18,446,744,073,709,551,615.
     ghost faults: { Self → ℕ };
@@ -29,7 +29,7 @@ pub trait Link {
     fn bind<R: Net>(&mut self, rt: &R, channel: u8, port: u16) -> Result<(), Failed>
         ensures sent { Same (sent self.old) (sent self.new) }
         ensures waits { Same (waits self.old) (waits self.new) }
-        ensures bound { Binds (bound self.old) (bound self.new) channel result }
+        ensures bound { Binds (bound self.old) (bound self.new) channel port result }
         ensures absent { NeedsChannel (bound self.old) channel result }
         ensures cause { HasCause (faults self.old) (faults self.new) result };
 

@@ -42,7 +42,7 @@ impl Letter {
 pub struct MemLink {
     out: Outbox,
     waits: [VecDeque<Letter>; 6],
-    bound: [bool; 6],
+    bound: [Option<u16>; 6],
     fails: Vec<u64>,
     calls: u64,
     faults: u64,
@@ -76,7 +76,7 @@ impl MemLink {
           sent = [];
           room = room;
           waits = replicate 6 [];
-          bound = replicate 6 false;
+          bound = replicate 6 None;
           fails = fails.now;
           calls = 0;
           faults = 0;
@@ -92,7 +92,7 @@ impl MemLink {
                 VecDeque::new(alloc),
                 VecDeque::new(alloc),
             ],
-            bound: [false; 6],
+            bound: [None; 6],
             fails: fails.to_vec(alloc)?,
             calls: 0,
             faults: 0,
@@ -148,11 +148,11 @@ impl MemLink {
     }
 
     fn is_bound(&self, channel: u8) -> bool
-        ensures bound { result ≡ slice_index_or self.now.bound channel false }
+        ensures bound { (result ≡ false) ↔ (slice_index_or self.now.bound channel None ≡ None) }
         ensures there { result ≡ true → channel < 6 }
     {
         match self.bound.get(usize::from(channel)) {
-            Some(bound) => *bound,
+            Some(port) => port.is_some(),
             None => false,
         }
     }
@@ -186,15 +186,15 @@ impl Link for MemLink {
 
     ghost faults = { λ s. s.faults };
 
-    fn bind<R: Net>(&mut self, _rt: &R, channel: u8, _port: u16) -> Result<(), Failed>
+    fn bind<R: Net>(&mut self, _rt: &R, channel: u8, port: u16) -> Result<(), Failed>
         ensures sent { Same (Some self.old.sent) (Some self.new.sent) }
         ensures waits { Same (Some self.old.waits) (Some self.new.waits) }
-        ensures bound { Binds (Some self.old.bound) (Some self.new.bound) channel result }
+        ensures bound { Binds (Some self.old.bound) (Some self.new.bound) channel port result }
         ensures absent { NeedsChannel (Some self.old.bound) channel result }
         ensures cause { HasCause self.old.faults self.new.faults result }
         ensures fails { IsErr result ↔ (Contains self.old.fails self.old.calls
             ⊎ (length self.old.bound ≤ channel)) }
-        ensures value { self.new ≡ after_bind result channel self.old }
+        ensures value { self.new ≡ after_bind result channel port self.old }
     {
         let fails = self.begin_call();
         if fails {
@@ -203,7 +203,7 @@ impl Link for MemLink {
         if !self.has_channel(channel) {
             return Err(self.fault());
         }
-        self.bound[usize::from(channel)] = true;
+        self.bound[usize::from(channel)] = Some(port);
         Ok(())
     }
 
@@ -214,7 +214,7 @@ impl Link for MemLink {
         ensures unbound { NeedsBound (Some self.old.bound) channel result }
         ensures cause { HasCause self.old.faults self.new.faults result }
         ensures fails { IsErr result ↔ (Contains self.old.fails self.old.calls
-            ⊎ (slice_index_or self.old.bound channel false ≡ false)
+            ⊎ (slice_index_or self.old.bound channel None ≡ None)
             ⊎ (self.old.room < 16 + length piece.now)) }
         ensures value { self.new ≡ after_send result channel to piece.now self.old }
     {
@@ -245,7 +245,7 @@ impl Link for MemLink {
         ensures unbound { NeedsBound (Some self.old.bound) channel result }
         ensures cause { HasCause self.old.faults self.new.faults result }
         ensures fails { IsErr result ↔ (Contains self.old.fails self.old.calls
-            ⊎ (slice_index_or self.old.bound channel false ≡ false)) }
+            ⊎ (slice_index_or self.old.bound channel None ≡ None)) }
         ensures value { self.new ≡ after_recv result channel self.old }
     {
         let fails = self.begin_call();

@@ -1,5 +1,5 @@
 // Datagrams over the sockets of the host.
-ghost use Rattle.std.specs.Prelude.{◌≡◌, ◌≤◌, List, None, Some, false, replicate};
+ghost use Rattle.std.specs.Prelude.{◌≡◌, ◌≤◌, List, None, Some, replicate};
 ghost use Rattle.wire_defs.specs.Outside.{HasCause, risen};
 ghost use Rattle.outside_core.specs.Counts.{count_after};
 ghost use Rattle.outside_link.specs.Link.{Binds, Incoming, NeedsBound, NeedsChannel, Outgoing, Receives, ReceivesAtMost, Same, Sends};
@@ -17,15 +17,16 @@ use wire_core::Addr;
 // asked.
 const PAUSE: u64 = 2;
 
-/// Six sockets of UDP on 127.0.0.1. It tells which of its channels are bound, and nothing of what
-/// they bring and take.
+/// Six sockets of UDP on 127.0.0.1. It tells the ports that its channels are bound to, and nothing of
+/// what they bring and take.
 ///
 /// A receive does not wait, with one exception: where the five receives before it, one for each of
 /// the other channels, had nothing, it waits for about two milliseconds. So a server that asks the
 /// channels in turn sleeps while nothing comes.
 #[derive(Drop)]
 pub struct UdpLink {
-    sockets: [Option<UdpSocket>; 6],
+    /// Each with the port that it was bound to.
+    sockets: [Option<(u16, UdpSocket)>; 6],
     /// How many receives in a row had nothing, since the last that waited.
     idle: usize,
     faults: u64,
@@ -33,11 +34,11 @@ pub struct UdpLink {
 
 impl Model for UdpLink {
     ghost use Rattle.std.specs.Prelude.{map, length, ◌≡◌};
-    ghost use Rattle.outside_link.specs.Sockets.{Sockets, is_open};
+    ghost use Rattle.outside_link.specs.Sockets.{Sockets, port_of};
 
     ghost Value = { Sockets };
 
-    ghost view = { λ s. record { bound = map is_open s.sockets; faults = s.faults } };
+    ghost view = { λ s. record { bound = map port_of s.sockets; faults = s.faults } };
 
     ghost invariant = { λ s. length s.sockets ≡ 6 };
 }
@@ -45,7 +46,7 @@ impl Model for UdpLink {
 impl UdpLink {
     /// A link none of whose channels is bound.
     pub fn new() -> Self
-        ensures { result ≡ record { bound = replicate 6 false; faults = 0 } }
+        ensures { result ≡ record { bound = replicate 6 None; faults = 0 } }
     {
         UdpLink {
             sockets: [None, None, None, None, None, None],
@@ -75,7 +76,7 @@ impl Link for UdpLink {
     fn bind<R: Net>(&mut self, rt: &R, channel: u8, port: u16) -> Result<(), Failed>
         ensures sent { Same {A = List Outgoing} None None }
         ensures waits { Same {A = List (List Incoming)} None None }
-        ensures bound { Binds (Some self.old.bound) (Some self.new.bound) channel result }
+        ensures bound { Binds (Some self.old.bound) (Some self.new.bound) channel port result }
         ensures absent { NeedsChannel (Some self.old.bound) channel result }
         ensures count { self.new.faults ≡ count_after result self.old.faults }
         ensures cause { HasCause self.old.faults self.new.faults result }
@@ -86,7 +87,7 @@ impl Link for UdpLink {
         }
         match open(rt, port) {
             Ok(socket) => {
-                self.sockets[at] = Some(socket);
+                self.sockets[at] = Some((port, socket));
                 Ok(())
             }
             Err(_) => Err(self.fault()),
@@ -102,7 +103,7 @@ impl Link for UdpLink {
         ensures cause { HasCause self.old.faults self.new.faults result }
     {
         match self.sockets.get(usize::from(channel)) {
-            Some(Some(socket)) if send_whole(socket, to, piece) => Ok(()),
+            Some(Some((_, socket))) if send_whole(socket, to, piece) => Ok(()),
             _ => Err(self.fault()),
         }
     }
@@ -123,7 +124,7 @@ impl Link for UdpLink {
     {
         let waits = self.idle >= CHANNELS - 1;
         let received = match self.sockets.get(usize::from(channel)) {
-            Some(Some(socket)) => receive(socket, waits, buf),
+            Some(Some((_, socket))) => receive(socket, waits, buf),
             _ => Err(Failed),
         };
         match received {

@@ -156,6 +156,7 @@ module _ {A : Type 0} (stands : A → State → Type 0) (made : A → ℕ) where
     n = t.0;
     proper = subst (λ l. t.0 < length l) is t.1;
     written = Appends-same origin taken' _ _ (ap (λ l. log server.config (entries_of came) ++ take t.0 l) is) (Appends-trans origin taken taken' _ _ at.written t.2);
+    trace = log_back server.config (entries_of came) at.settings at.records;
     posted = at.posted;
   }
   not_logged room a origin taken taken' first sent server came text Full at is t = absurd t

@@ -156,8 +156,8 @@ halted room c before after waits all origin taken first sent e s w = by e s.halt
     by NoMemory h = (s.more, begins c before s.mid all s.done (s.step ∷ s.rest) s.more s.split s.passed, h)
     by (Refused line why) h = absurd h
     by ReadFault h = absurd h
-    by WriteFault h = (s.more, h.0, begins-one c before s.mid after all s.done s.rest s.step s.more h.0 s.split s.passed h.1, h.2)
-    by Full h = (s.more, full room c before all s.more h.0 (begins-one c before s.mid after all s.done s.rest s.step s.more h.0 s.split s.passed h.1) h.2, h.3)
+    by WriteFault h = (s.more, h.0, half c before s.mid after waits all s.done s.rest s.step s.more (h.0 ∷ []) s.split s.passed (inl h.1) w, h.2)
+    by Full h = (s.more, h.0, half c before s.mid after waits all s.done s.rest s.step s.more (h.0 ∷ []) s.split s.passed (inl h.1) w, full room c before all s.more h.0 (begins-one c before s.mid after all s.done s.rest s.step s.more h.0 s.split s.passed h.1) h.2, h.3)
     by LinkFault h = (s.more ++ h.0, half c before s.mid after waits all s.done s.rest s.step s.more h.0 s.split s.passed h.1 w, h.2)
     by TooLong h = absurd h
 

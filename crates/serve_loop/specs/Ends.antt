@@ -1,5 +1,5 @@
 -- How a run ends.
-use Rattle.std.specs.Prelude.{◌≡◌, ◌⊎◌, ◌<◌, ◌≤◌, ◌++◌, ◌∷◌, [], ⊤, ℕ, Bool, List, length, take, Option, Some, None, Ok, Err, IfSome, min}
+use Rattle.std.specs.Prelude.{◌≡◌, ◌⊎◌, ◌<◌, ◌≤◌, ◌++◌, ◌∷◌, [], ⊤, ℕ, List, drop, length, map, take, Option, Some, None, Ok, Err, IfSome, min}
 use Rattle.std.specs.Io.KnownBytes.{Appends, Keeps}
 use Rattle.wire_defs.specs.Outside.{Rose}
 use Rattle.switch_event.specs.Config.{Config}
@@ -7,7 +7,7 @@ use Rattle.switch_defs.specs.Switch.{State}
 use Rattle.trace_defs.specs.Text.{config_text}
 use Rattle.history_defs.specs.Output.{controls_in}
 use Rattle.outside_link.specs.Clock.{moment_of, moments_after}
-use Rattle.outside_link.specs.Link.{Incoming, Outgoing, Same}
+use Rattle.outside_link.specs.Link.{Incoming, Outgoing, Ports, Same}
 use Rattle.settings_reader.specs.declared.settings_err.SettingsErr.{SettingsErr}
 use Rattle.settings_reader.specs.Settings.{SettingsEnd}
 use Rattle.serve_defs.specs.declared.TheConstants.{LAST_MOMENT}
@@ -70,10 +70,11 @@ Halted room c before waits steps origin taken first sent Done = (came : List Arr
     Finished c before waits steps came × (controls_in (entries_of came) ≤ room)
     × IsLogged c origin taken first sent came
 Halted room c before waits steps origin taken first sent WriteFault =
-    (came : List Arrival) × (a : Arrival) × Begins c before steps (came ++ a ∷ [])
+    (came : List Arrival) × (a : Arrival) × Partly c before waits steps (came ++ a ∷ [])
     × IsHalfLogged c origin taken first sent came a
-Halted room c before waits steps origin taken first sent Full = (came : List Arrival) ×
-    IsFull room c before steps came × IsLogged c origin taken first sent came
+Halted room c before waits steps origin taken first sent Full =
+    (came : List Arrival) × (a : Arrival) × Partly c before waits steps (came ++ a ∷ [])
+    × IsFull room c before steps came × IsLogged c origin taken first sent came
 Halted room c before waits steps origin taken first sent LinkFault = (came : List Arrival) ×
     Partly c before waits steps came × IsHalfPosted c origin taken first sent came
 Halted room c before waits steps origin taken first sent NoMemory = (came : List Arrival) ×
@@ -122,13 +123,13 @@ abbrev pub IsFirst : Option (List ℕ) → (moment : ℕ) → Type 0
 IsFirst moments moment = IfSome moments (λ m. moment ≡ moment_of m)
 
 -- what a source, a sink, a link and a clock tell: the octets that are left and those that were taken,
--- the datagrams that wait and those that were sent, what is bound, and the moments
+-- the datagrams that wait and those that were sent, the ports that are bound, and the moments
 pub record Told : Type 0 where
   pub left : Option (List ℕ)
   pub taken : Option (List ℕ)
   pub waits : Option (List (List Incoming))
   pub sent : Option (List Outgoing)
-  pub bound : Option (List Bool)
+  pub bound : Option Ports
   pub moments : Option (List ℕ)
 
 -- nothing was written, sent or taken from a channel
@@ -146,22 +147,39 @@ pub record IsUnsettled (limit : ℕ) (old new : Told) (e : SettingsErr) (ending 
   pub unbound : Same old.bound new.bound
   pub unasked : Same old.moments new.moments
 
--- with settings a channel could not be bound, or the run ends later, with the first moment as their
--- clock
-abbrev pub ServeEnds : (room turns : ℕ) → (settings : Config) → (old new : Told) → Ending → Type 0
-ServeEnds room turns settings old new ending =
-    ((ending ≡ LinkFault) × IsUntouched old new)
-    ⊎ ((moment : ℕ) × IsFirst old.moments moment
+-- the first channels are bound to these ports, in their order, and the others as before
+abbrev pub IsBoundTo : Option Ports → Option Ports → (ports : List ℕ) → Type 0
+IsBoundTo None new ports = ⊤
+IsBoundTo (Some old) None ports = ⊥
+IsBoundTo (Some old) (Some new) ports = new ≡ map Some ports ++ drop (length ports) old
+
+-- only to the first of them
+abbrev pub IsPartlyBound : Option Ports → Option Ports → (ports : List ℕ) → Type 0
+IsPartlyBound old new ports = (n : ℕ) × (n < length ports) × IsBoundTo old new (take n ports)
+
+-- a channel could not be bound, and the clock was not asked
+pub record IsUnbound (ports : List ℕ) (old new : Told) (ending : Ending) : Type 0 where
+  pub ends : ending ≡ LinkFault
+  pub untouched : IsUntouched old new
+  pub bound : IsPartlyBound old.bound new.bound ports
+  pub unasked : Same old.moments new.moments
+
+-- with settings a channel could not be bound, or all are and the run ends later, with the first
+-- moment as the clock of the settings
+abbrev pub ServeEnds : (room turns : ℕ) → (ports : List ℕ) → (settings : Config) →
+    (old new : Told) → Ending → Type 0
+ServeEnds room turns ports settings old new ending = IsUnbound ports old new ending
+    ⊎ (IsBoundTo old.bound new.bound ports × (moment : ℕ) × IsFirst old.moments moment
     × RunEnds room turns (clocked settings moment)
     (outer_of (clocked settings moment).clock (later_moments old.moments) old.waits) new.waits
     old.taken new.taken old.sent new.sent ending)
 
 -- how a whole run ends: without settings, or with those of the source
-abbrev pub Ends : (limit room turns : ℕ) → (old new : Told) → Ending → Type 0
-Ends limit room turns old new ending =
+abbrev pub Ends : (limit room turns : ℕ) → (ports : List ℕ) → (old new : Told) → Ending → Type 0
+Ends limit room turns ports old new ending =
     ((e : SettingsErr) × IsUnsettled limit old new e ending)
     ⊎ ((settings : Config) × SettingsEnd limit old.left new.left (Ok settings)
-    × ServeEnds room turns settings old new ending)
+    × ServeEnds room turns ports settings old new ending)
 
 -- the counts never fall, and a fault comes only where its count rose
 pub record HasEndCauses (source source_new out out_new link link_new : ℕ) (ending : Ending) :

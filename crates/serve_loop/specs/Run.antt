@@ -139,14 +139,15 @@ pub record IsHalfPosted (c : Config) (origin taken : Option (List ℕ))
   pub trace : ReadsBack c (entries_of came)
   pub posted : SendsFirst first sent (posted_for c came)
 
--- the log of what came was taken, and a proper part of that of the next record; and what belongs to
--- what came was sent
+-- the log of what came was taken, which is a trace of it, and a proper part of that of the next
+-- record; and what belongs to what came was sent
 pub record IsHalfLogged (c : Config) (origin taken : Option (List ℕ))
     (first sent : Option (List Outgoing)) (came : List Arrival) (a : Arrival) : Type 0 where
   pub n : ℕ
   pub proper : n < length (logged (place_of c came) a.entry)
   pub written : Appends origin taken
       (log c (entries_of came) ++ take n (logged (place_of c came) a.entry))
+  pub trace : ReadsBack c (entries_of came)
   pub posted : Grows first sent (posted_for c came)
 
 -- ---- how one record, one datagram or one step ends a run

@@ -39,6 +39,7 @@ impl<'a> Post<'a> {
             → IfErr result (λ _. SendsFirst (L.sent link.old) (L.sent link.new)
             (all_posted c homes tray.now.items)) }
         ensures waits { Same (L.waits link.old) (L.waits link.new) }
+        ensures bound { Same (L.bound link.old) (L.bound link.new) }
         ensures cause { HasCause (L.faults link.old) (L.faults link.new) result }
     {
         for n in 0..tray.len() {
@@ -64,6 +65,7 @@ impl<'a> Post<'a> {
             (posted c homes (slice_index_or tray.now.items n d))) }
         ensures err { OnErr result (Same (L.sent link.old) (L.sent link.new)) }
         ensures waits { Same (L.waits link.old) (L.waits link.new) }
+        ensures bound { Same (L.bound link.old) (L.bound link.new) }
         ensures cause { HasCause (L.faults link.old) (L.faults link.new) result }
     {
         match tray.item(n) {
@@ -79,6 +81,7 @@ impl<'a> Post<'a> {
             (posted c homes (sent_of sent.entry))) }
         ensures err { OnErr result (Same (L.sent link.old) (L.sent link.new)) }
         ensures waits { Same (L.waits link.old) (L.waits link.new) }
+        ensures bound { Same (L.bound link.old) (L.bound link.new) }
         ensures cause { HasCause (L.faults link.old) (L.faults link.new) result }
     {
         match sent {

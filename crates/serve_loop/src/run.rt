@@ -84,6 +84,7 @@ impl<A: Authenticator + Drop> Server<A> {
         ensures sound { OnOk result (IsSound A.stands A.made room self.new) }
         ensures number { OnOk result (self.new.core.number ≤ 61) }
         ensures config { OnOk result (self.new.config ≡ self.old.config) }
+        ensures bound { Same (L.bound link.old) (L.bound link.new) }
         ensures cause { HasRunCause (K.faults out.old) (K.faults out.new) (L.faults link.old)
             (L.faults link.new) result }
     {
@@ -120,6 +121,7 @@ impl<A: Authenticator + Drop> Server<A> {
             (L.sent link.old) (L.sent link.new) self.old e) }
         ensures sound { OnOk result (IsSound A.stands A.made room self.new) }
         ensures config { OnOk result (self.new.config ≡ self.old.config) }
+        ensures bound { Same (L.bound link.old) (L.bound link.new) }
         ensures cause { HasRunCause (K.faults out.old) (K.faults out.new) (L.faults link.old)
             (L.faults link.new) result }
     {
@@ -148,6 +150,7 @@ pub fn serve_from<A: Authenticator + Drop, R: Net, K: Sink, L: Link, C: Clock>(
     ensures ends { RunEnds room turns config
         (outer_of config.clock (C.moments clock.old) (L.waits link.old)) (L.waits link.new)
         (K.taken out.old) (K.taken out.new) (L.sent link.old) (L.sent link.new) result }
+    ensures bound { Same (L.bound link.old) (L.bound link.new) }
     ensures cause { HasEndCause (K.faults out.old) (K.faults out.new) (L.faults link.old)
         (L.faults link.new) result }
 {

@@ -118,6 +118,7 @@ impl<A: Authenticator + Drop> Server<A> {
             → IfErr result (λ _. SendsFirst (L.sent link.old) (L.sent link.new)
             (all_posted self.now.config homes sent)) }
         ensures waits { Same (L.waits link.old) (L.waits link.new) }
+        ensures bound { Same (L.bound link.old) (L.bound link.new) }
         ensures cause { HasCause (L.faults link.old) (L.faults link.new) result }
     {
         match entry {
@@ -161,6 +162,7 @@ impl<A: Authenticator + Drop> Server<A> {
         ensures config { self.new.config ≡ self.old.config }
         ensures last { self.new.last ≡ self.old.last }
         ensures waits { Same (L.waits link.old) (L.waits link.new) }
+        ensures bound { Same (L.bound link.old) (L.bound link.new) }
         ensures cause { HasRunCause (K.faults out.old) (K.faults out.new) (L.faults link.old)
             (L.faults link.new) result }
     {
@@ -200,6 +202,7 @@ impl<A: Authenticator + Drop> Server<A> {
         ensures sound { OnOk result (IsSound A.stands A.made room self.new) }
         ensures number { OnOk result (self.new.core.number ≤ self.old.core.number + 1) }
         ensures config { OnOk result (self.new.config ≡ self.old.config) }
+        ensures bound { Same (L.bound link.old) (L.bound link.new) }
         ensures cause { HasRunCause (K.faults out.old) (K.faults out.new) (L.faults link.old)
             (L.faults link.new) result }
     {
@@ -246,6 +249,7 @@ impl<A: Authenticator + Drop> Server<A> {
         ensures config { self.new.config ≡ self.old.config }
         ensures last { self.new.last ≡ self.old.last }
         ensures waits { Same (L.waits link.old) (L.waits link.new) }
+        ensures bound { Same (L.bound link.old) (L.bound link.new) }
         ensures cause { HasRunCause (K.faults out.old) (K.faults out.new) (L.faults link.old)
             (L.faults link.new) result }
     {
@@ -282,6 +286,7 @@ impl<A: Authenticator + Drop> Server<A> {
         ensures sound { OnOk result (IsSound A.stands A.made room self.new) }
         ensures number { OnOk result (self.new.core.number ≤ self.old.core.number + 1) }
         ensures config { OnOk result (self.new.config ≡ self.old.config) }
+        ensures bound { Same (L.bound link.old) (L.bound link.new) }
         ensures cause { HasRunCause (K.faults out.old) (K.faults out.new) (L.faults link.old)
             (L.faults link.new) result }
     {
@@ -321,6 +326,7 @@ impl<A: Authenticator + Drop> Server<A> {
         ensures sound { OnOk result (IsSound A.stands A.made room self.new) }
         ensures number { OnOk result (self.new.core.number ≤ self.old.core.number + 1) }
         ensures config { OnOk result (self.new.config ≡ self.old.config) }
+        ensures bound { Same (L.bound link.old) (L.bound link.new) }
         ensures cause { HasRunCause (K.faults out.old) (K.faults out.new) (L.faults link.old)
             (L.faults link.new) result }
         ensures last { self.new.last ≡ self.old.last }
@@ -358,6 +364,7 @@ impl<A: Authenticator + Drop> Server<A> {
         ensures sound { OnOk result (IsSound A.stands A.made room self.new) }
         ensures number { OnOk result (self.new.core.number ≤ self.old.core.number + 7) }
         ensures config { OnOk result (self.new.config ≡ self.old.config) }
+        ensures bound { Same (L.bound link.old) (L.bound link.new) }
         ensures cause { HasRunCause (K.faults out.old) (K.faults out.new) (L.faults link.old)
             (L.faults link.new) result }
         ensures buf { length buf.new ≡ MOST_TAKEN + 1 }

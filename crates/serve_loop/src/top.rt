@@ -1,9 +1,9 @@
 // A whole run: the settings are read, the channels are bound, the clock is asked, and then it serves.
-ghost use Rattle.std.specs.Prelude.{◌≡◌, ◌≤◌, ◌<◌, ◌^◌};
+ghost use Rattle.std.specs.Prelude.{◌≡◌, ◌≤◌, ◌<◌, ◌^◌, OnErr, OnOk};
 ghost use Rattle.wire_defs.specs.Outside.{HasCause};
 ghost use Rattle.event_record.specs.declared.TheConstants.{MOST_EVENTS};
 ghost use Rattle.outside_link.specs.Link.{Same};
-ghost use Rattle.serve_loop.specs.Ends.{Ends, HasEndCauses};
+ghost use Rattle.serve_loop.specs.Ends.{Ends, HasEndCauses, IsBoundTo, IsPartlyBound};
 
 use crate::ending::{Ending, unsettled};
 use crate::run::serve_from;
@@ -19,6 +19,8 @@ use std::net::Net;
 fn bind_all<R: Net, L: Link>(rt: &R, ports: &[u16; 6], link: &mut L) -> Result<(), Failed>
     ensures sent { Same (L.sent link.old) (L.sent link.new) }
     ensures waits { Same (L.waits link.old) (L.waits link.new) }
+    ensures ok { OnOk result (IsBoundTo (L.bound link.old) (L.bound link.new) ports.now) }
+    ensures err { OnErr result (IsPartlyBound (L.bound link.old) (L.bound link.new) ports.now) }
     ensures cause { HasCause (L.faults link.old) (L.faults link.new) result }
 {
     'channels: for channel in 0..6 {
@@ -52,7 +54,7 @@ pub fn serve_within<A: Authenticator + Drop, R: Net, S: Source, K: Sink, L: Link
 ) -> Ending
     requires limit { limit < 2 ^ 62 }
     requires room { room ≤ MOST_EVENTS }
-    ensures ends { Ends limit room turns
+    ensures ends { Ends limit room turns ports.now
         (record {
           left = S.left source.old;
           taken = K.taken out.old;

@@ -4,8 +4,7 @@ ghost use Rattle.std.specs.IoError.{error_kind};
 ghost use Rattle.std.specs.declared.io.ErrorKind.TheVariants.{OutOfMemory};
 
 use std::alloc::{AllocError, Global};
-use std::env;
-use std::io;
+use std::{env, io};
 
 /// The command line as it was given, with the program's own name; without a word where it is no text. `AllocError`:
 /// there is no memory.

@@ -1,5 +1,5 @@
 -- What the contract of the top call cites.
-use Rattle.std.specs.Prelude.{◌≡◌, ◌+◌, ℕ, ◌==◌, if◌then◌else◌, [], ◌⊎◌, List, Option}
+use Rattle.std.specs.Prelude.{◌≡◌, ◌+◌, ℕ, ◌==◌, if◌then◌else◌, [], ◌∷◌, ◌⊎◌, List, Option}
 use Rattle.std.specs.Io.KnownBytes.{Appends, Consumes}
 use Rattle.switch_event.specs.Config.{Config}
 use Rattle.trace_defs.specs.Trace.{fate, progress_of, reason_of}
@@ -77,8 +77,15 @@ abbrev pub settings_refusal : ℕ → List ℕ → List ℕ
 settings_refusal limit text =
     refusal_text ((progress_of (settings_of limit text)).lines + 1) (reason_of (settings_of limit text))
 
--- what a server's run did: how it ended, by its status
-pub record Serves (limit room turns : ℕ) (old new : Told) (status : ℕ) : Type 0 where
+-- the ports of a server's channels: those of the frames, of the first socket of the RADIUS client, of
+-- dynamic requests, and of the other three sockets
+abbrev pub ports_of : (frames radius dynamic : ℕ) → List ℕ
+ports_of frames radius dynamic =
+    frames ∷ radius ∷ dynamic ∷ (radius + 1) ∷ (radius + 2) ∷ (radius + 3) ∷ []
+
+-- what a server's run at these ports did: how it ended, by its status
+pub record Serves (limit room turns : ℕ) (ports : List ℕ) (old new : Told) (status : ℕ) :
+    Type 0 where
   pub ending : Served
   pub status_is : status ≡ served_status ending
-  pub ends : Ends limit room turns old new ending
+  pub ends : Ends limit room turns ports old new ending

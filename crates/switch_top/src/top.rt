@@ -13,7 +13,7 @@ ghost use Rattle.race_phases.specs.Raced.{begun_by, legal_by};
 ghost use Rattle.switch_top.specs.declared.form.Form.TheVariants.{Check as AsksCheck, Replay as AsksReplay, Race as AsksRace, Serve as AsksServe};
 ghost use Rattle.serve_loop.specs.Ending.{status_of as served_status};
 ghost use Rattle.switch_top.specs.Form.{form_of as asked, is_serve};
-ghost use Rattle.switch_top.specs.Top.{Counts, IsByText, IsStatus, OfGiven, RaceShort, Serves, Writes, served_text, settings_refusal};
+ghost use Rattle.switch_top.specs.Top.{Counts, IsByText, IsStatus, OfGiven, RaceShort, Serves, Writes, ports_of, served_text, settings_refusal};
 
 use crate::form::{Form, form_of};
 use control_core::Core;
@@ -102,11 +102,11 @@ where
         → Counts MOST_OCTETS MOST_EVENTS empty (S.left source.old) (S.left source.new)
         (K.taken out.old) (K.taken out.new) result }
 
-    // `serve A B C T`: how T turns end, by the settings, by what was written and sent, and by what
-    // came, where clock and link tell that.
+    // `serve A B C T`: how T turns at these ports end, by the settings, by what was written and sent,
+    // and by what came, where clock and link tell that.
     ensures served { (frames radius dynamic turns : ℕ)
         → asked (map string_bytes words.now) ≡ Some (AsksServe frames radius dynamic turns)
-        → Serves MOST_OCTETS MOST_EVENTS turns
+        → Serves MOST_OCTETS MOST_EVENTS turns (ports_of frames radius dynamic)
         (record {
           left = S.left source.old;
           taken = K.taken out.old;

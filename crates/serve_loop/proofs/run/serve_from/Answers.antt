@@ -1,4 +1,5 @@
 use Rattle.std.proofs.Common.{◌∙◌, ◌++◌, ◌≡◌, sym, ap, map}
+use Rattle.outside_link.proofs.LinkLemmas.{Same-trans}
 use Rattle.serve_defs.specs.Served.{turns_steps, all_steps}
 use Rattle.serve_defs.specs.Served.Step.{Up}
 use Rattle.serve_loop.proofs.Steps.{stops_first, stops_over, goes_on}
@@ -42,3 +43,9 @@ returns-clause-ends g c =
     let split : all_steps c.args.config.ports c.args.turns ≡ ups ++ turns = ap (λ k. map (λ p. Up p.port) k.ports ++ turns) (sym opened.settings) in
     run_stops g.A.Authenticator.stands g.A.Authenticator.made c.args.room c.args.turns c.args.config server.config server.last _ _ _ _ _ _ _ _ _ _ server c.in-Err-turns.ending opened.settings opened.last (c.in-Ok.ensures.ok _)
     (stops_over g.A.Authenticator.stands g.A.Authenticator.made c.args.room server.config raised.config ups turns (all_steps c.args.config.ports c.args.turns) _ _ _ _ _ _ _ _ _ server raised c.in-Err-turns.ending split same (c.in_default.ensures.ok _) c.in-Err-turns.ensures.err)
+
+pub returns-in-Ok-turns-clause-bound : goal.returns-in-Ok-turns-clause-bound
+returns-in-Ok-turns-clause-bound g c = Same-trans _ _ _ c.in_default.ensures.bound c.in-Ok-turns.ensures.bound
+
+pub returns-clause-bound : goal.returns-clause-bound
+returns-clause-bound g c = Same-trans _ _ _ c.in_default.ensures.bound c.in-Err-turns.ensures.bound

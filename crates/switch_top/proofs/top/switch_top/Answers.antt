@@ -49,4 +49,4 @@ returns-in-Some-Serve-clause-served g c = λ a b d t asked.
 
 pub returns-in-Some-Serve-clause-settings_refused : goal.returns-in-Some-Serve-clause-settings_refused
 returns-in-Some-Serve-clause-settings_refused g c = λ serves three.
-    serve_refused MOST_OCTETS MOST_EVENTS c.in-Some-Serve.turns _ _ _ _ _ _ c.serve_within-ending.result _ c.serve_within-ending.ensures.ends c.told_served.ensures.said c.told_served.ensures.status three
+    serve_refused MOST_OCTETS MOST_EVENTS c.in-Some-Serve.turns _ _ _ _ _ _ _ c.serve_within-ending.result _ c.serve_within-ending.ensures.ends c.told_served.ensures.said c.told_served.ensures.status three

@@ -13,12 +13,16 @@ returns-in-Err-clause-err g c = λ settings homes same table.
 pub returns-in-Err-clause-waits : goal.returns-in-Err-clause-waits
 returns-in-Err-clause-waits g c = Same-trans _ _ _ c.loop-n.invariant.waits c.in-Err.ensures.waits
 
+pub returns-in-Err-clause-bound : goal.returns-in-Err-clause-bound
+returns-in-Err-clause-bound g c = Same-trans _ _ _ c.loop-n.invariant.bound c.in-Err.ensures.bound
+
 pub loop-n-preserved : goal.loop-n-preserved
 loop-n-preserved g c = record {
   front = λ settings homes same table.
       Grows-same _ _ _ _ (sym (one_more settings homes c.args.tray.now.items c.loop-n.n (ToHost 0 []) (omega (arith, c.loop-n-test.true))))
       (Grows-trans _ _ _ _ _ (c.loop-n.invariant.front settings homes same table) (c.in_default.ensures.ok settings homes (ToHost 0 []) same table));
   waits = Same-trans _ _ _ c.loop-n.invariant.waits c.in_default.ensures.waits;
+  bound = Same-trans _ _ _ c.loop-n.invariant.bound c.in_default.ensures.bound;
   later = omega (arith, c.loop-n.invariant.later, c.in_default.ensures.cause.later);
 }
 

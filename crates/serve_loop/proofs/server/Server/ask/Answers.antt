@@ -1,4 +1,5 @@
 use Rattle.std.proofs.Common.{refl, arith}
+use Rattle.outside_link.proofs.LinkLemmas.{Same-trans}
 use Rattle.serve_loop.proofs.Outer.{moves_none, stays_failed, moves_datagram, closes_datagram}
 use Rattle.serve_loop.proofs.Steps.{step_none, stops_failed, taken_ok, taken_err}
 use Rattle.serve_loop.proofs.server.Server.ask.Goals as goal
@@ -24,3 +25,6 @@ returns-in-Ok-Some-clause-err g c = λ m.
     taken_err g.A.Authenticator.stands g.A.Authenticator.made c.take.result c.args.room c.args.self.now.config _ _ c.args.channel _ _ _ _ _ _ c.args.self.now c.in-Ok-Some.ensures.sent c.take.ensures.err
     (moves_datagram c.args.self.now.config _ _ c.args.channel m _ _ _ c.recv.new.buf _ c.in-Ok-Some.from c.in-Ok-Some.count some (omega (arith, c.requires.buf, c.recv.auto.buf)) refl c.take.ensures.last c.take.ensures.waits)
     (closes_datagram c.args.self.now.config _ _ c.args.channel m _ _ _ c.recv.new.buf _ c.in-Ok-Some.from c.in-Ok-Some.count some (omega (arith, c.requires.buf, c.recv.auto.buf)) refl c.take.ensures.last c.take.ensures.waits)
+
+pub returns-in-Ok-Some-clause-bound : goal.returns-in-Ok-Some-clause-bound
+returns-in-Ok-Some-clause-bound g c = Same-trans _ _ _ c.in-Ok-Some.ensures.bound c.take.ensures.bound

@@ -1,5 +1,6 @@
 use Rattle.std.proofs.Common.{◌∙◌, ◌+◌, ◌≡◌, map, take, drop, arith, refl, ap, length}
 use Rattle.std.proofs.lemmas.List.{take_all}
+use Rattle.outside_link.proofs.LinkLemmas.{Same-refl, Same-trans}
 use Rattle.serve_defs.specs.Served.Step.{Up}
 use Rattle.trace_defs.proofs.PortFacts.{are_ports-few}
 use Rattle.serve_loop.specs.Run.{Stops}
@@ -14,6 +15,7 @@ ports-init g c = record {
   number = omega (arith, c.requires.number);
   ends = c.len-n-end.ensures.value ∙ ap (λ s. length s.config.ports) c.self.view_is;
   config = refl;
+  bound = Same-refl _;
   out_later = omega arith;
   link_later = omega arith;
 }
@@ -28,6 +30,9 @@ returns-in_err-set_up-clause-err g c = λ m.
     (stops_on g.A.Authenticator.stands g.A.Authenticator.made c.args.room c.args.self.now.config c.ports.self.config (map (λ p. Up p.port) (take c.ports.n ports)) _ (map (λ p. Up p.port) (drop (c.ports.n + 1) ports)) (map (λ p. Up p.port) ports)
     _ _ _ _ _ _ _ _ _ c.args.self.now c.ports.self c.in_err-set_up.field-0.0 (ups_split_at ports c.deref.result.now c.ports.n _ is (omega (arith, c.ports-test.true, c.ports.invariant.ends))) c.ports.invariant.config (c.ports.invariant.steps m) (c.in_err-set_up.ensures.err m))
 
+pub returns-in_err-set_up-clause-bound : goal.returns-in_err-set_up-clause-bound
+returns-in_err-set_up-clause-bound g c = Same-trans _ _ _ c.ports.invariant.bound c.in_err-set_up.ensures.bound
+
 pub ports-preserved : goal.ports-preserved
 ports-preserved g c =
     let ports = c.args.self.now.config.ports in
@@ -38,6 +43,7 @@ ports-preserved g c =
       number = omega (arith, c.ports.invariant.number, c.in_ok-set_up.ensures.number);
       ends = c.ports.invariant.ends;
       config = c.in_ok-set_up.ensures.config ∙ c.ports.invariant.config;
+      bound = Same-trans _ _ _ c.ports.invariant.bound c.in_ok-set_up.ensures.bound;
       out_later = omega (arith, c.ports.invariant.out_later, c.in_ok-set_up.ensures.cause.out_later);
       link_later = omega (arith, c.ports.invariant.link_later, c.in_ok-set_up.ensures.cause.link_later);
     }

@@ -1,4 +1,5 @@
 use Rattle.std.proofs.Common.{◌≡◌, ◌≤◌, ◌+◌, List, ℕ, Option, length, take, map}
+use Rattle.outside_link.specs.Link.{Same}
 use Rattle.serve_defs.specs.Served.Step.{Up}
 use Rattle.serve_loop.specs.Run.{IsSound, Steps, outer_of}
 use Rattle.serve_loop.proofs.server.Server.raise.Given as goal
@@ -12,6 +13,7 @@ invariant-ports g l = record {
   number : l.self.core.number ≤ 1 + l.n;
   ends : l.n-end ≡ length l.fn.self.config.ports;
   config : l.self.config ≡ l.fn.self.config;
+  bound : Same (g.L.Link.bound l.fn.link) (g.L.Link.bound l.link);
   out_later : g.K.Sink.faults l.fn.out ≤ g.K.Sink.faults l.out;
   link_later : g.L.Link.faults l.fn.link ≤ g.L.Link.faults l.link;
 }

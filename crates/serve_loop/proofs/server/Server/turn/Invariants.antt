@@ -1,4 +1,5 @@
 use Rattle.std.proofs.Common.{◌≡◌, ◌≤◌, ◌+◌, length, take}
+use Rattle.outside_link.specs.Link.{Same}
 use Rattle.serve_defs.specs.Served.{turn_steps}
 use Rattle.serve_loop.specs.Run.{IsSound, Steps, outer_of}
 use Rattle.serve_loop.proofs.server.Server.turn.Given as goal
@@ -11,6 +12,7 @@ invariant-channels g l = record {
   number : l.self.core.number ≤ l.fn.self.core.number + 1 + l.channel;
   config : l.self.config ≡ l.fn.self.config;
   buf : length l.buf ≡ 5001;
+  bound : Same (g.L.Link.bound l.fn.link) (g.L.Link.bound l.link);
   out_later : g.K.Sink.faults l.fn.out ≤ g.K.Sink.faults l.out;
   link_later : g.L.Link.faults l.fn.link ≤ g.L.Link.faults l.link;
 }

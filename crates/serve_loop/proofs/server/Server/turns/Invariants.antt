@@ -1,4 +1,5 @@
 use Rattle.std.proofs.Common.{◌≡◌, ◌≤◌, ◌+◌, ◌*◌}
+use Rattle.outside_link.specs.Link.{Same}
 use Rattle.serve_defs.specs.Served.{turns_steps}
 use Rattle.serve_loop.specs.Run.{IsSound, Steps, outer_of}
 use Rattle.serve_loop.proofs.server.Server.turns.Given as goal
@@ -10,6 +11,7 @@ invariant-turns g l = record {
   sound : IsSound g.A.Authenticator.stands g.A.Authenticator.made l.room l.self;
   number : l.self.core.number ≤ 61 + 7 * l.turn;
   config : l.self.config ≡ l.fn.self.config;
+  bound : Same (g.L.Link.bound l.fn.link) (g.L.Link.bound l.link);
   out_later : g.K.Sink.faults l.fn.out ≤ g.K.Sink.faults l.out;
   link_later : g.L.Link.faults l.fn.link ≤ g.L.Link.faults l.link;
 }
