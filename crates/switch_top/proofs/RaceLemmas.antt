@@ -40,7 +40,7 @@ module _ (lanes workers limit room : ℕ) (config : Config) (before left origin 
   writes_at TooLong r = run_writes (begun_by lanes workers) (legal_by lanes workers) limit room config before left origin after TooLong 8 r refl
 
   -- what it wrote, by its status
-  race_writes : (ending : Ending) (status : ℕ) → RaceEnds lanes workers limit room config before left origin after ending → status ≡ status_of ending
+  pub race_writes : (ending : Ending) (status : ℕ) → RaceEnds lanes workers limit room config before left origin after ending → status ≡ status_of ending
       → Writes (begun_by lanes workers) (legal_by lanes workers) limit room config before left origin after status
   race_writes ending status r e = subst (Writes (begun_by lanes workers) (legal_by lanes workers) limit room config before left origin after) (sym e) (writes_at ending r)
 

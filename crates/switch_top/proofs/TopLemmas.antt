@@ -24,7 +24,7 @@ told_whole P None left given c e h = (given, h)
 told_whole P (Some b) None given c e h = absurd c
 told_whole P (Some b) (Some rest) given c e h = subst P (sym (c ∙ ap (λ l. given ++ l) e ∙ append-nil given)) h
 
-each_text : {P Q : List ℕ → Type 0} (left : Option (List ℕ)) → ((text : List ℕ) → P text → Q text) → OfText left P → OfText left Q
+pub each_text : {P Q : List ℕ → Type 0} (left : Option (List ℕ)) → ((text : List ℕ) → P text → Q text) → OfText left P → OfText left Q
 each_text None f h = (h.0, f h.0 h.1)
 each_text (Some text) f h = f text h
 

@@ -2,8 +2,9 @@
 use Rattle.std.specs.Prelude.{◌≤◌, ◌+◌, ◌==◌, ◌&&◌, ℕ, Bool, true, false, not, nat_le, if◌then◌else◌, List, [], ◌∷◌, Option, None, Some, codes}
 use Rattle.std.specs.Str.{bytes_eq}
 use Rattle.wire_defs.specs.Number.{number_in}
+use Rattle.day_defs.specs.declared.TheConstants.{MOST_HOSTS}
 use Rattle.switch_top.specs.declared.form.Form.{Form}
-use Rattle.switch_top.specs.declared.form.Form.TheVariants.{Check, Replay, Race, Serve}
+use Rattle.switch_top.specs.declared.form.Form.TheVariants.{Check, Replay, Race, Load, Serve}
 
 -- what follows of what is there
 infixl 10 ◌>>=◌
@@ -17,6 +18,16 @@ alone word =
     if bytes_eq word (codes "check") then Some Check
     else if bytes_eq word (codes "replay") then Some Replay
     else None
+
+-- the number of hosts
+abbrev pub loaded : List ℕ → Option Form
+loaded n = do
+  hosts ← number_in 1 MOST_HOSTS n
+  Some (Load hosts)
+
+-- `load N`
+abbrev pub two : List ℕ → List ℕ → Option Form
+two word n = if bytes_eq word (codes "load") then loaded n else None
 
 -- the numbers of workers and of lanes
 abbrev pub raced : List ℕ → List ℕ → Option Form
@@ -60,7 +71,7 @@ five word a b c t = if bytes_eq word (codes "serve") then served a b c t else No
 abbrev pub form_of : List (List ℕ) → Option Form
 form_of [] = None
 form_of (word ∷ []) = alone word
-form_of (word ∷ a ∷ []) = None
+form_of (word ∷ a ∷ []) = two word a
 form_of (word ∷ a ∷ b ∷ []) = three word a b
 form_of (word ∷ a ∷ b ∷ c ∷ []) = None
 form_of (word ∷ a ∷ b ∷ c ∷ d ∷ []) = five word a b c d
@@ -70,13 +81,24 @@ form_of (word ∷ a ∷ b ∷ c ∷ d ∷ e ∷ rest) = None
 abbrev pub is_serve : Option Form → Bool
 is_serve (Some (Serve frames radius dynamic turns)) = true
 is_serve (Some (Race workers lanes)) = false
+is_serve (Some (Load hosts)) = false
 is_serve (Some Check) = false
 is_serve (Some Replay) = false
 is_serve None = false
+
+-- it is a form that reads a trace
+abbrev pub reads_trace : Option Form → Bool
+reads_trace (Some Check) = true
+reads_trace (Some Replay) = true
+reads_trace (Some (Race workers lanes)) = true
+reads_trace (Some (Load hosts)) = false
+reads_trace (Some (Serve frames radius dynamic turns)) = false
+reads_trace None = false
 
 -- the numbers of a form are in their ranges
 abbrev pub IsInRange : Form → Type 0
 IsInRange Check = Unit {0}
 IsInRange Replay = Unit {0}
 IsInRange (Race workers lanes) = (1 ≤ workers) × (workers ≤ 8) × (1 ≤ lanes) × (lanes ≤ 3)
+IsInRange (Load hosts) = (1 ≤ hosts) × (hosts ≤ MOST_HOSTS)
 IsInRange (Serve frames radius dynamic turns) = radius ≤ 65532

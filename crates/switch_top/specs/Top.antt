@@ -1,18 +1,23 @@
 -- What the contract of the top call cites.
-use Rattle.std.specs.Prelude.{◌≡◌, ◌+◌, ℕ, ◌==◌, if◌then◌else◌, [], ◌∷◌, ◌⊎◌, List, Option}
+use Rattle.std.specs.Prelude.{◌≡◌, ◌+◌, ◌≤◌, ℕ, ◌==◌, if◌then◌else◌, [], ◌∷◌, ◌⊎◌, List, Option, Some, None}
 use Rattle.std.specs.Io.KnownBytes.{Appends, Consumes}
-use Rattle.switch_event.specs.Config.{Config}
+use Rattle.switch_event.specs.Config.{Config, empty}
 use Rattle.trace_defs.specs.Trace.{fate, progress_of, reason_of}
+use Rattle.history_defs.specs.Output.{controls_in}
 use Rattle.history_defs.specs.Status.{refusal_text, status_text}
+use Rattle.outside_link.specs.Clock.{moment_of, moments_after}
+use Rattle.outside_link.specs.Link.{Incoming}
+use Rattle.day_load.specs.Ending.{TellsAll, TellsPart}
 use Rattle.race_run.specs.Runs.{Phased}
 use Rattle.race_run.specs.declared.ending.Ending.{Ending}
 use Rattle.race_run.specs.Ending.{OfText, EndsByFate, TakesGiven, HalfWritten, RunEnds}
 use Rattle.race_run.specs.Counts.{counts_of, HalfCounted}
-use Rattle.serve_defs.specs.Settings.{settings_of}
+use Rattle.serve_defs.specs.Settings.{settings_of, settings_fate}
+use Rattle.serve_defs.specs.Served.{served as served_records}
 use Rattle.serve_loop.specs.declared.ending.Ending.{Ending as Served}
 use Rattle.serve_loop.specs.declared.ending.Ending.TheVariants as served
 use Rattle.serve_loop.specs.Ending.{status_of as served_status}
-use Rattle.serve_loop.specs.Ends.{Ends, Told}
+use Rattle.serve_loop.specs.Ends.{Ends, Told, clocked}
 
 -- the statuses that the text alone decides
 abbrev pub IsByText : ℕ → Type 0
@@ -67,6 +72,19 @@ pub record RaceShort (gave : Phased) (limit room : ℕ) (config : Config)
   pub ending : Ending
   pub ends : RunEnds gave gave limit room config before left origin after ending
 
+-- a source tells a trace that runs: each line of it is right, and it is not too long
+abbrev pub TellsTrace : (limit room : ℕ) → (left : Option (List ℕ)) → Type 0
+TellsTrace limit room None = ⊥
+TellsTrace limit room (Some text) = fate limit room empty text ≡ 0
+
+-- What the run of a day wrote, by its status: the whole line that tells what the day came to, a
+-- proper part of it, or nothing where there was no memory. No other status comes.
+pub record Loads (hosts : ℕ) (origin after : Option (List ℕ)) (status : ℕ) : Type 0 where
+  pub no_other : (status ≡ 0) ⊎ (status ≡ 1) ⊎ (status ≡ 5)
+  pub whole : status ≡ 0 → TellsAll hosts origin after
+  pub nothing : status ≡ 1 → Appends origin after []
+  pub write_fault : status ≡ 5 → TellsPart hosts origin after
+
 -- what is said of the end of a server's run
 abbrev pub served_text : Served → List ℕ
 served_text (served.Refused line why) = refusal_text line why
@@ -89,3 +107,25 @@ pub record Serves (limit room turns : ℕ) (ports : List ℕ) (old new : Told) (
   pub ending : Served
   pub status_is : status ≡ served_status ending
   pub ends : Ends limit room turns ports old new ending
+
+-- a source tells settings of a server: each line of them is right, they end, and they are not too
+-- long
+abbrev pub TellsSettings : (limit : ℕ) → (left : Option (List ℕ)) → Type 0
+TellsSettings limit None = ⊥
+TellsSettings limit (Some text) = settings_fate limit text ≡ 0
+
+-- the settings of a text, with the first of these moments as their clock
+abbrev pub settings_at : (limit : ℕ) → List ℕ → (moments : List ℕ) → Config
+settings_at limit text moments =
+    clocked (progress_of (settings_of limit text)).config (moment_of moments)
+
+-- Source, clock and link tell what a server makes of it in so many turns, and a history has room
+-- for these control records.
+abbrev pub HasRoom : (limit room turns : ℕ) → (left : Option (List ℕ)) →
+    (moments : Option (List ℕ)) → (waits : Option (List (List Incoming))) → Type 0
+HasRoom limit room turns None moments waits = ⊥
+HasRoom limit room turns (Some text) None waits = ⊥
+HasRoom limit room turns (Some text) (Some moments) None = ⊥
+HasRoom limit room turns (Some text) (Some moments) (Some waits) =
+    controls_in
+    (served_records (settings_at limit text moments) (moments_after moments) waits turns) ≤ room

@@ -4,6 +4,7 @@ ghost use Rattle.wire_defs.specs.Number.{number_in};
 ghost use Rattle.switch_top.specs.Form as asked;
 ghost use Rattle.switch_top.specs.Form.{IsInRange};
 
+use day_defs::MOST_HOSTS;
 use wire_core::decimal;
 
 /// What the words of a command line ask for.
@@ -17,6 +18,10 @@ pub enum Form {
     Race {
         workers: usize,
         lanes: u8,
+    },
+    /// `load N`: a day of an office with 1 to 240 hosts is run.
+    Load {
+        hosts: u8,
     },
     /// `serve A B C T`: frames, RADIUS and dynamic requests are served on these ports of UDP, for 1
     /// to 100,000,000 turns. RADIUS has its port, 1 to 65,532, and the three that follow it. The six
@@ -37,6 +42,7 @@ pub fn form_of(words: &[String]) -> Option<Form>
 {
     match words {
         [word] => alone(octets(word)),
+        [word, n] => two(octets(word), octets(n)),
         [word, w, l] => three(octets(word), octets(w), octets(l)),
         [word, a, b, c, t] => five(octets(word), octets(a), octets(b), octets(c), octets(t)),
         _ => None,
@@ -60,6 +66,25 @@ fn alone(word: &[u8]) -> Option<Form>
     } else {
         None
     }
+}
+
+fn two(word: &[u8], n: &[u8]) -> Option<Form>
+    ensures form { result ≡ asked.two word.now n.now }
+    ensures range { IfSome result IsInRange }
+{
+    if word == b"load".as_slice() {
+        loaded(n)
+    } else {
+        None
+    }
+}
+
+fn loaded(n: &[u8]) -> Option<Form>
+    ensures form { result ≡ asked.loaded n.now }
+    ensures range { IfSome result IsInRange }
+{
+    let hosts = number(n, 1, u32::from(MOST_HOSTS))?;
+    Some(Form::Load { hosts: hosts as u8 })
 }
 
 fn three(word: &[u8], w: &[u8], l: &[u8]) -> Option<Form>

@@ -1,5 +1,5 @@
 // The call that does all that the program does.
-ghost use Rattle.std.specs.Prelude.{◌≡◌, ◌≢◌, ◌↔◌, ℕ, List, Option, None, Some, true, false, map, string_bytes};
+ghost use Rattle.std.specs.Prelude.{◌≡◌, ◌≢◌, ◌↔◌, ◌⊎◌, ℕ, List, Option, None, Some, true, false, map, string_bytes};
 ghost use Rattle.std.specs.Io.KnownBytes.{IsAtEnd};
 ghost use Rattle.wire_defs.specs.Outside.{Rose};
 ghost use Rattle.switch_event.specs.Config.{empty};
@@ -10,16 +10,17 @@ ghost use Rattle.history_defs.specs.Status.{status_text};
 ghost use Rattle.outside_text.specs.Streams.{Says};
 ghost use Rattle.race_run.specs.Ending.{OfText, StopsShort, refusal_of, status_of, ending_text};
 ghost use Rattle.race_phases.specs.Raced.{begun_by, legal_by};
-ghost use Rattle.switch_top.specs.declared.form.Form.TheVariants.{Check as AsksCheck, Replay as AsksReplay, Race as AsksRace, Serve as AsksServe};
+ghost use Rattle.switch_top.specs.declared.form.Form.TheVariants.{Check as AsksCheck, Replay as AsksReplay, Race as AsksRace, Load as AsksLoad, Serve as AsksServe};
 ghost use Rattle.serve_loop.specs.Ending.{status_of as served_status};
-ghost use Rattle.switch_top.specs.Form.{form_of as asked, is_serve};
-ghost use Rattle.switch_top.specs.Top.{Counts, IsByText, IsStatus, OfGiven, RaceShort, Serves, Writes, ports_of, served_text, settings_refusal};
+ghost use Rattle.switch_top.specs.Form.{form_of as asked, is_serve, reads_trace};
+ghost use Rattle.switch_top.specs.Top.{Counts, HasRoom, IsByText, IsStatus, Loads, OfGiven, RaceShort, Serves, TellsSettings, TellsTrace, Writes, ports_of, served_text, settings_refusal};
 
 use crate::form::{Form, form_of};
 use control_core::Core;
+use day_load::load_within;
 use event_record::MOST_EVENTS;
 use history_defs::MOST_OCTETS;
-use outside_core::{Sink, Source};
+use outside_core::{NoGate, Sink, Source};
 use outside_link::{Clock, Link};
 use race_phases::race_within;
 use race_run::{
@@ -33,8 +34,9 @@ use std::thread::Threads;
 
 /// Runs the program of these words over a source, writes its output into `out` and what is said of
 /// its status into `err`, and answers the status. `check` counts the records of a trace; `replay`
-/// runs them on one thread, and `race W L` on W workers and L lanes. `serve A B C T` takes settings
-/// from the source and serves what comes by the link, at the moments of the clock, for T turns.
+/// runs them on one thread, and `race W L` on W workers and L lanes. `load N` reads nothing, runs a
+/// day of an office with N hosts, and tells what it came to. `serve A B C T` takes settings from
+/// the source and serves what comes by the link, at the moments of the clock, for T turns.
 pub fn switch_top<S, K, L, C, T>(
     rt: &T,
     alloc: Global,
@@ -65,7 +67,7 @@ where
         → (Rose (K.faults out.old) (K.faults out.new) → ⊥)
         → (Rose (L.faults link.old) (L.faults link.new) → ⊥)
         → result ≢ 1 → result ≢ 2 → IsByText result }
-    ensures at_end { is_serve (asked (map string_bytes words.now)) ≡ false → result ≡ 0
+    ensures at_end { reads_trace (asked (map string_bytes words.now)) ≡ true → result ≡ 0
         → IsAtEnd (S.left source.new) }
     ensures read_fault { result ≡ 4 → Rose (S.faults source.old) (S.faults source.new) }
     ensures write_fault { result ≡ 5 → Rose (K.faults out.old) (K.faults out.new) }
@@ -102,6 +104,13 @@ where
         → Counts MOST_OCTETS MOST_EVENTS empty (S.left source.old) (S.left source.new)
         (K.taken out.old) (K.taken out.new) result }
 
+    // `load N`: what a day of N hosts came to was written, a proper part of it, or nothing; nothing
+    // was read.
+    ensures loaded { (hosts : ℕ) → asked (map string_bytes words.now) ≡ Some (AsksLoad hosts)
+        → Loads hosts (K.taken out.old) (K.taken out.new) result }
+    ensures unread { (hosts : ℕ) → asked (map string_bytes words.now) ≡ Some (AsksLoad hosts)
+        → source.new ≡ source.old }
+
     // `serve A B C T`: how T turns at these ports end, by the settings, by what was written and sent,
     // and by what came, where clock and link tell that.
     ensures served { (frames radius dynamic turns : ℕ)
@@ -125,10 +134,34 @@ where
         })
         result }
 
+    // Where nothing outside failed, a trace that runs is run, a day is, and right settings are
+    // served, unless there was no memory. A server may also have too many records for a history:
+    // not where source, clock and link tell of fewer.
+    ensures complete { reads_trace (asked (map string_bytes words.now)) ≡ true
+        → TellsTrace MOST_OCTETS MOST_EVENTS (S.left source.old)
+        → (Rose (S.faults source.old) (S.faults source.new) → ⊥)
+        → (Rose (K.faults out.old) (K.faults out.new) → ⊥)
+        → (result ≡ 0) ⊎ (result ≡ 1) }
+    ensures complete_day { (hosts : ℕ)
+        → asked (map string_bytes words.now) ≡ Some (AsksLoad hosts)
+        → (Rose (K.faults out.old) (K.faults out.new) → ⊥)
+        → (result ≡ 0) ⊎ (result ≡ 1) }
+    ensures complete_server { is_serve (asked (map string_bytes words.now)) ≡ true
+        → TellsSettings MOST_OCTETS (S.left source.old)
+        → (Rose (S.faults source.old) (S.faults source.new) → ⊥)
+        → (Rose (K.faults out.old) (K.faults out.new) → ⊥)
+        → (Rose (L.faults link.old) (L.faults link.new) → ⊥)
+        → (result ≡ 0) ⊎ (result ≡ 1) ⊎ (result ≡ 6) }
+    ensures roomy { (frames radius dynamic turns : ℕ)
+        → asked (map string_bytes words.now) ≡ Some (AsksServe frames radius dynamic turns)
+        → HasRoom MOST_OCTETS MOST_EVENTS turns (S.left source.old) (C.moments clock.old)
+        (L.waits link.old)
+        → result ≢ 6 }
+
     // The text of the status was taken by `err`, all of it where its count did not rise.
     ensures said { result ≢ 3 → Says (K.taken err.old) (K.taken err.new)
         (K.faults err.old) (K.faults err.new) (status_text result) }
-    ensures refused { is_serve (asked (map string_bytes words.now)) ≡ false → result ≡ 3
+    ensures refused { reads_trace (asked (map string_bytes words.now)) ≡ true → result ≡ 3
         → OfText (S.left source.old) (λ b.
         Says (K.taken err.old) (K.taken err.new) (K.faults err.old) (K.faults err.new)
         (refusal_of MOST_OCTETS MOST_EVENTS empty b)) }
@@ -168,6 +201,10 @@ where
                 source,
                 out,
             );
+            told(err, ending)
+        }
+        Some(Form::Load { hosts }) => {
+            let ending = load_within::<Core, T, NoGate, K>(rt, alloc, &NoGate, hosts, out);
             told(err, ending)
         }
         Some(

@@ -6,15 +6,9 @@ pub returns-in_default-2-clause-form : goal.returns-in_default-2-clause-form
 returns-in_default-2-clause-form c =
     let low = c.in_default.len_at_least in
     let high = c.in_default.len_below in
-    none_else _ c.args.words.now (λ e. omega (arith, low, high, e)) (λ e. omega (arith, low, high, e)) (λ e. omega (arith, low, high, e))
+    none_else _ c.args.words.now (λ e. omega (arith, low, high, e)) (λ e. omega (arith, low, high, e)) (λ e. omega (arith, low, high, e)) (λ e. omega (arith, low, high, e))
 
 pub returns-in_default-3-clause-form : goal.returns-in_default-3-clause-form
 returns-in_default-3-clause-form c =
     let low = c.in_default.len_at_least in
-    let high = c.in_default.len_below in
-    none_else _ c.args.words.now (λ e. omega (arith, low, high, e)) (λ e. omega (arith, low, high, e)) (λ e. omega (arith, low, high, e))
-
-pub returns-in_default-4-clause-form : goal.returns-in_default-4-clause-form
-returns-in_default-4-clause-form c =
-    let low = c.in_default.len_at_least in
-    none_else _ c.args.words.now (λ e. omega (arith, low, e)) (λ e. omega (arith, low, e)) (λ e. omega (arith, low, e))
+    none_else _ c.args.words.now (λ e. omega (arith, low, e)) (λ e. omega (arith, low, e)) (λ e. omega (arith, low, e)) (λ e. omega (arith, low, e))
