@@ -1,22 +1,26 @@
 #!/usr/bin/env bash
-# Refuses each allocation in turn to a login over a book, and says which call was refused. That call is made once more, and the
-# test wants what stands afterwards to be as if nothing was refused: the serials, what became of each event, and what a worker
-# decides (crates/book_tests).
-# Usage: bench/refused_entries.sh [FIRST [LAST]], the numbers of allocations, else from 1 until no run asks so often. It proves
-# nothing: `rt try` builds the test anew for each number, half a minute.
+# Refuses each request for memory in turn to a login over a book (the test of crates/book_tests), and says which call was refused.
+# That call is made once more, and the test wants what stands afterwards to be as if nothing was refused: the serials, what became
+# of each event, and what a worker decides.
+# Usage: bench/refused_entries.sh; build the test first (`rt test` in crates/book_tests). It needs a C compiler, and takes some
+# seconds.
 set -eu
-cd "$(dirname "$0")/../crates/book_tests"
-first=${1:-1}
-last=${2:-10000}
+cd "$(dirname "$0")/.."
+program=$PWD/crates/book_tests/out/book_tests_tests
+[ -x "$program" ] || { echo "build the test first: (cd crates/book_tests && rt test)" >&2; exit 1; }
 work=$(mktemp -d)
 trap 'rm -rf "$work"' EXIT
+. bench/refuse.sh
+make_refuse "$work"
 
-for ((n = first; n <= last; n++)); do
-    rt try --test --fail-alloc "$n" > "$work/said" 2>&1 || { cat "$work/said"; echo "allocation $n: WRONG" >&2; exit 1; }
-    call=$(sed -n 's/.*refused: //p' "$work/said" | sort -u)
-    [ "$call" = none ] && break
-    echo "$call"
-done | uniq -c | awk -v n="$first" '{
-    count = $1; $1 = ""
-    printf "allocations %d to %d:%s was refused; made once more, and all as if it was not\n", n, n + count - 1, $0
-    n += count }'
+# Which call was refused in the run in which this request is, until none is in twenty in a row.
+whole=0
+for ((n = 1; whole < 20; n++)); do
+    call=wrong
+    if LD_PRELOAD="$work/refuse.so" FIRST="$n" LAST="$n" "$program" > "$work/said" 2>&1; then
+        call=$(sed -n 's/.*refused: //p' "$work/said")
+    fi
+    whole=$([ "$call" = none ] && echo $((whole + 1)) || echo 0)
+    echo "${call:-before the first call}"
+done | uniq -c | tee "$work/calls"
+! grep -q wrong "$work/calls"

@@ -2,15 +2,14 @@
 # Refuses memory to a run over a short trace of three phases, in each way that there is, and says how the runs ended.
 # Usage: bench/refused_memory.sh [WORDS [FIRST LAST]], with the program's words, else "replay"; build the program first (`rt run` in
 # crates/switch_run). It needs a C compiler, and takes two minutes.
-#   one      each request for memory in turn is refused to the built program, and the later ones are not (a few lines of C that stand
-#            before the C library's calls)
+#   one      each request for memory in turn is refused to the built program, and the later ones are not
+#            (refuse.sh)
 #   all      each and all later ones are refused
 #   limits   the program gets less memory than it wants: from 2 MB to 512 MB of addresses, in steps of 256 KB
 #   tried    where FIRST and LAST are given: the allocations of these numbers, one in each run of `rt try --fail-alloc`, which
 #            builds the program anew each time, half a minute
-# Each run has to end with 1, `out of memory` and the blocks of whole phases, or as if nothing were refused, or with 2 and nothing
-# written, where the words themselves were not to be had. A limit of addresses counts the stack too, which is no allocation: at a
-# limit that leaves just too little for it, the host ends the run.
+# Each run has to end with 1, `out of memory` and the blocks of whole phases, or as if nothing were refused. A limit of addresses counts
+# the stack too, which is no allocation: at a limit that leaves just too little for it, the host ends the run.
 set -eu
 cd "$(dirname "$0")/.."
 words=${1:-replay}
@@ -43,7 +42,6 @@ ending() {
     case "$1 $(phases) $(head -c 20 "$work/err" | tr -c '[:lower:]' ' ' | xargs)" in
         "0 3 ") echo "whole" ;;
         "1 "[0-3]" out of memory") echo "out of memory behind $(phases) phases" ;;
-        "2 0 usage") echo "usage, with nothing written" ;;
         "127 0 "*) echo "not begun: no room for the program" ;;
         "139 0 ") echo "ended by the host: no room for the stack" ;;
         *) echo "WRONG: status $1, $(wc -l < "$work/out") lines, $(head -c 80 "$work/err")" ;;
@@ -58,30 +56,8 @@ run() {
     ending "$status"
 }
 
-cat > "$work/refuse.c" <<'CODE'
-#define _GNU_SOURCE
-#include <dlfcn.h>
-#include <errno.h>
-#include <stdatomic.h>
-#include <stdlib.h>
-
-/* Whether this request is to be refused: the one of the number FIRST, or with LAST also those behind it. */
-static int refused(void) {
-    static atomic_long asked;
-    const char *first = getenv("FIRST"), *last = getenv("LAST");
-    long number = atomic_fetch_add(&asked, 1) + 1;
-    return first && number >= atol(first) && number <= atol(last);
-}
-
-#define REFUSE(answer) do { if (refused()) { errno = ENOMEM; return answer; } } while (0)
-#define NEXT(name) ((__typeof__(&name)) dlsym(RTLD_NEXT, #name))
-
-void *malloc(size_t size) { REFUSE(NULL); return NEXT(malloc)(size); }
-void *realloc(void *old, size_t size) { REFUSE(NULL); return NEXT(realloc)(old, size); }
-void *aligned_alloc(size_t to, size_t size) { REFUSE(NULL); return NEXT(aligned_alloc)(to, size); }
-int posix_memalign(void **out, size_t to, size_t size) { REFUSE(ENOMEM); return NEXT(posix_memalign)(out, to, size); }
-CODE
-${CC:-cc} -O1 -shared -fPIC -o "$work/refuse.so" "$work/refuse.c" -ldl
+. bench/refuse.sh
+make_refuse "$work"
 
 refuse() { export LD_PRELOAD="$work/refuse.so" FIRST="$1" LAST="$2"; }
 
@@ -104,7 +80,7 @@ if [ $# = 3 ]; then
         status=0
         # shellcheck disable=SC2086
         (cd crates/switch_run && rt try --fail-alloc "$n" -- $words < "$trace" > "$work/out" 2> "$work/said") || status=$?
-        grep -x 'usage\|out of memory' "$work/said" > "$work/err" || true
+        grep -x 'out of memory' "$work/said" > "$work/err" || true
         echo "tried: allocation $n: $(ending "$status")"
     done | tee "$work/tried"
 fi
