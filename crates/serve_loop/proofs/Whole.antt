@@ -1,5 +1,5 @@
 -- From a run behind its settings to the whole run.
-use Rattle.std.proofs.Common.{◌≡◌, ◌⊎◌, inl, inr, ℕ, ◌+◌, ◌-◌, ◌<◌, ◌≤◌, min, List, [], ◌∷◌, ◌++◌, length, length-append, length-drop, take, drop, map, slice_index_or, slice_set, append_assoc, Option, None, Some, Ok, Err, refl, sym, ap, ap₂, ◌∙◌, subst, arith}
+use Rattle.std.proofs.Common.{◌≡◌, ◌⊎◌, inl, inr, Bool, true, false, ℕ, ◌+◌, ◌-◌, ◌<◌, ◌≤◌, min, List, [], ◌∷◌, ◌++◌, length, length-append, length-drop, take, drop, map, slice_index_or, slice_set, append_assoc, Option, None, Some, Ok, Err, refl, sym, ap, ap₂, ◌∙◌, subst, arith}
 use Rattle.std.proofs.lemmas.Bool.{cases_lt}
 use Rattle.std.proofs.lemmas.List.{drop_more, length-map, length-take-le, map-append, set_at, take_more}
 use Rattle.std.specs.Io.KnownBytes.{Keeps, IsAtEnd}
@@ -147,25 +147,18 @@ pub bound_none : (a : Option Ports) → IsBoundTo a a []
 bound_none None = tt
 bound_none (Some x) = refl
 
--- one could not be
-pub bound_failed : {T E : Type 0} (a b c : Option Ports) (ports : List ℕ) (channel port : ℕ) (e : E) → IsBoundTo a b ports → Binds {T = T} {E = E} b c channel port (Err e) → IsBoundTo a c ports
-bound_failed None b c ports channel port e p q = tt
-bound_failed (Some x) None c ports channel port e p q = absurd p
-bound_failed (Some x) (Some y) None ports channel port e p q = absurd q
-bound_failed (Some x) (Some y) (Some z) ports channel port e p q = q ∙ p
-
 -- one more is
-pub bound_next : {T E : Type 0} (a b c : Option Ports) (ports : List ℕ) (channel port : ℕ) (done : T) → IsBoundTo a b (take channel ports) → Binds {T = T} {E = E} b c channel port (Ok done)
+pub bound_next : (T E : Type 0) (a b c : Option Ports) (ports : List ℕ) (channel port : ℕ) (done : T) → IsBoundTo a b (take channel ports) → Binds {T = T} {E = E} b c channel port (Ok done)
     → NeedsChannel {T = T} {E = E} b channel (Ok done) → channel < length ports → port ≡ slice_index_or ports channel 0 → IsBoundTo a c (take (channel + 1) ports)
-bound_next None b c ports channel port done p q needs low is = tt
-bound_next (Some x) None c ports channel port done p q needs low is = absurd p
-bound_next (Some x) (Some y) None ports channel port done p q needs low is = absurd q
-bound_next (Some x) (Some y) (Some z) ports channel port done p q needs low is =
+bound_next T E None b c ports channel port done p q needs low is = tt
+bound_next T E (Some x) None c ports channel port done p q needs low is = absurd p
+bound_next T E (Some x) (Some y) None ports channel port done p q needs low is = absurd q
+bound_next T E (Some x) (Some y) (Some z) ports channel port done p q needs low is =
     let first = take channel ports in
     let few : length first ≡ channel = length-take-le channel ports (omega (arith, low)) in
     let long : length (map Some first) ≡ channel = length-map first Some ∙ few in
     let whole : length y ≡ channel + (length x - channel) = ap length p ∙ length-append (map Some first) (drop (length first) x) ∙ omega (arith, long, few, length-drop (length first) x) in
-    let within : channel < length x = elim (cases_lt channel (length y)) [ inl lt ↦ omega (arith, lt, whole) | inr ge ↦ absurd (needs ge) ] in
+    let within : channel < length x = elim (cases_lt channel (length y)) [ inl lt ↦ omega (arith, lt, whole) | inr ge ↦ let h : false ≡ true = needs ge in cc ] in
     let split : y ≡ map Some first ++ slice_index_or x channel None ∷ drop (channel + 1) x =
     p ∙ ap (λ n. map Some first ++ drop n x) few ∙ ap (λ l. map Some first ++ l) (drop_more x channel None within) in
     let last : ℕ = slice_index_or ports channel 0 in

@@ -79,6 +79,7 @@ ports_in None = []
 ports_in (Some Check) = []
 ports_in (Some Replay) = []
 ports_in (Some (Race workers lanes)) = []
+ports_in (Some (Load hosts)) = []
 ports_in (Some (Serve frames radius dynamic turns)) = ports_of frames radius dynamic
 
 -- what was done in as many turns, and at the ports, that were asked for
