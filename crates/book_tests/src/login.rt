@@ -48,10 +48,8 @@ fn settings() -> Config {
     let _fits = config.secret.try_extend_from_slice(b"secret");
     let mut secret = ArrayVec::new();
     let _fits = secret.try_extend_from_slice(b"dyn");
-    let _fits = config.clients.try_push(Client {
-        ip: CLIENT.ip,
-        secret,
-    });
+    let ip = CLIENT.ip;
+    let _fits = config.clients.try_push(Client { ip, secret });
     let _fits = config.ports.try_push(PortConf {
         port: 1,
         native: 10,

@@ -1,10 +1,10 @@
 // The words of the command line.
-ghost use Rattle.std.specs.Prelude.{◌≡◌, ◌≢◌, ◌×◌, [], drop, OnErr, OnOk};
+ghost use Rattle.std.specs.Prelude.{◌≡◌, ◌≢◌, [], drop, IfOk, OnErr};
 ghost use Rattle.std.specs.IoError.{error_kind};
-ghost use Rattle.std.specs.declared.io.ErrorKind.TheVariants.{OutOfMemory};
 
 use std::alloc::{AllocError, Global};
-use std::{env, io};
+use std::env;
+use std::io::{Error, ErrorKind};
 
 /// The command line as it was given, with the program's own name; without a word where it is no text. `AllocError`:
 /// there is no memory.
@@ -16,11 +16,12 @@ pub fn command_line(rt: &HostRuntime) -> Result<Vec<String>, AllocError> {
 }
 
 // What stands for words that the host did not give.
-fn no_words(alloc: Global, error: &io::Error) -> Result<Vec<String>, AllocError>
-    ensures no_text { OnOk result (λ words. (words ≡ []) × (error_kind error.now ≢ OutOfMemory)) }
-    ensures no_memory { OnErr result (error_kind error.now ≡ OutOfMemory) }
+fn no_words(alloc: Global, error: &Error) -> Result<Vec<String>, AllocError>
+    ensures no_text { IfOk result (λ words.
+        (words ≡ []) × (error_kind error.now ≢ ErrorKind.OutOfMemory)) }
+    ensures no_memory { OnErr result (error_kind error.now ≡ ErrorKind.OutOfMemory) }
 {
-    if error.kind() == io::ErrorKind::OutOfMemory {
+    if error.kind() == ErrorKind::OutOfMemory {
         Err(AllocError)
     } else {
         Ok(Vec::new(alloc))
