@@ -18,7 +18,7 @@ pub fn command_line(rt: &HostRuntime) -> Result<Vec<String>, AllocError> {
 // What stands for words that the host did not give.
 fn no_words(alloc: Global, error: &Error) -> Result<Vec<String>, AllocError>
     ensures no_text { IfOk result (λ words.
-        (words ≡ []) × (error_kind error.now ≢ ErrorKind.OutOfMemory)) }
+        (words.items ≡ []) × (error_kind error.now ≢ ErrorKind.OutOfMemory)) }
     ensures no_memory { OnErr result (error_kind error.now ≡ ErrorKind.OutOfMemory) }
 {
     if error.kind() == ErrorKind::OutOfMemory {
