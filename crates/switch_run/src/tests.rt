@@ -3,7 +3,7 @@ ghost use Rattle.std.specs.Prelude.{◌≤◌, None};
 
 use crate::words::without_name;
 use outside_core::{Failed, MemSink, MemSource, Sink, Source, SureSink, SureSource};
-use outside_link::{Addr, ListClock, MemLink};
+use outside_link::{Addr, Clock, Link, ListClock, MemLink};
 use std::alloc::{AllocError, Global};
 use std::cell::Cell;
 use std::net::Net;
@@ -31,6 +31,20 @@ fn replay(alloc: Global) -> Result<Vec<String>, AllocError> {
     Ok(words)
 }
 
+// The status of a call.
+fn top<T: Threads + Wait + Net + Sync, S: Source, K: Sink, L: Link, C: Clock>(
+    rt: &T,
+    alloc: Global,
+    words: &[String],
+    source: &mut S,
+    out: &mut K,
+    err: &mut K,
+    link: &mut L,
+    clock: &mut C,
+) -> u8 {
+    switch_top(rt, alloc, words, source, out, err, link, clock)
+}
+
 // The status of a call over a link and a clock in memory.
 fn called<T: Threads + Wait + Net + Sync, S: Source, K: Sink>(
     rt: &T,
@@ -42,7 +56,7 @@ fn called<T: Threads + Wait + Net + Sync, S: Source, K: Sink>(
 ) -> Result<u8, AllocError> {
     let mut link = MemLink::new(alloc, 0, &[])?;
     let mut clock = ListClock::new(alloc, &[])?;
-    Ok(switch_top(rt, alloc, words, source, out, err, &mut link, &mut clock))
+    Ok(top(rt, alloc, words, source, out, err, &mut link, &mut clock))
 }
 
 fn words_of(alloc: Global, words: &[&str]) -> Result<Vec<String>, AllocError> {
@@ -543,7 +557,7 @@ fn a_server_logs_a_frame_and_answers_its_sender(rt: HostRuntime) -> Result<(), F
     let mut source = MemSource::new(rt.alloc(), SETTINGS.as_bytes(), 4096, &[])?;
     let mut out = MemSink::new(rt.alloc(), ROOM, &[])?;
     let mut err = MemSink::new(rt.alloc(), ROOM, &[])?;
-    let status = switch_top(
+    let status = top(
         &rt,
         rt.alloc(),
         &words,
