@@ -1,4 +1,4 @@
-ghost use Rattle.std.specs.Prelude.{◌≡◌, ◌≤◌, ◌<◌, ◌^◌, ◌++◌, ◌∷◌, [], true, length, slice_get, slice_range, Some, OnOk, IfOk};
+ghost use Rattle.std.specs.Prelude.{◌≡◌, ◌≤◌, ◌<◌, ◌^◌, ◌++◌, ◌∷◌, [], true, length, slice_get, slice_range, Some, OnOk, OnErr};
 ghost use Rattle.trace_defs.specs.Output as output;
 ghost use Rattle.legal_defs.specs.Blocks.{Shown, forwards_one};
 ghost use Rattle.block_list.specs.Marks.{shown, one_if};
@@ -69,7 +69,7 @@ impl Blocks {
     }
 
     /// Adds the block of a control record of this number, which ran on a lane, 1 to 3, as the entry
-    /// of this serial. `AllocError`: there is no memory.
+    /// of this serial. `AllocError`: there is no memory, and the blocks are as before.
     pub fn add_control(
         &mut self,
         number: u64,
@@ -80,11 +80,12 @@ impl Blocks {
     ) -> Result<(), AllocError>
         requires lane { (1 ≤ lane) × (lane ≤ 3) }
         requires outcome { output.can_come outcome.now ≡ true }
-        ensures { OnOk result (self.new ≡ self.old ++ record {
+        ensures added { OnOk result (self.new ≡ self.old ++ record {
           count = serial;
           text = output.control_block number lane serial outcome.now tray.now.items;
           forwards = 0;
         } ∷ []) }
+        ensures kept { OnErr result (self.new ≡ self.old) }
     {
         let start = self.text.len();
         print_control(number, lane, serial, outcome, tray, &mut self.text)?;
@@ -99,18 +100,19 @@ impl Blocks {
     }
 
     /// Adds the block of a data record of this number, with the frame that goes out. `AllocError`:
-    /// there is no memory.
+    /// there is no memory, and the blocks are as before.
     pub fn add_data(
         &mut self,
         number: u64,
         decided: &Decided,
         tagged: &[u8],
     ) -> Result<(), AllocError>
-        ensures { OnOk result (self.new ≡ self.old ++ record {
+        ensures added { OnOk result (self.new ≡ self.old ++ record {
           count = decided.now.front;
           text = output.data_line number decided.now.front decided.now.decision tagged.now;
           forwards = forwards_one decided.now.decision;
         } ∷ []) }
+        ensures kept { OnErr result (self.new ≡ self.old) }
     {
         let start = self.text.len();
         print_data(number, decided, tagged, &mut self.text)?;

@@ -147,13 +147,15 @@ impl Worker {
 
     /// Learns a receipt of the finished list, and enters once more: it then has exactly that list,
     /// with which each list that it entered before begins. The answer is the front, as of
-    /// `forward`.
+    /// `forward`. `AllocError`: the entry was refused; then the receipt is learnt all the same, and
+    /// what was seen stands.
     pub fn close(&mut self, r: Receipt) -> Result<u64, AllocError>
         requires own { r.name ≡ self.old.name }
         requires finished { (cs : List Change) × (r.list ≡ cs ++ Finish ∷ []) }
         ensures same { (self.new.name ≡ self.old.name) × (self.new.first ≡ self.old.first) }
+        ensures this { IsPrefix self.old.list self.new.list }
+        ensures that { IsPrefix r.list self.new.list }
         ensures all { IfOk result (λ n. self.new.list ≡ r.list) }
-        ensures begins { IfOk result (λ n. IsPrefix self.old.list r.list) }
         ensures front { IfOk result (λ n. n ≡ front_of r.list) }
     {
         self.learn(r);

@@ -1,7 +1,8 @@
 //! What the sessions show: to dynamic requests, and to those that forward frames.
 
-ghost use Rattle.std.specs.Prelude.{◌≡◌, Some, map, slice_get};
+ghost use Rattle.std.specs.Prelude.{◌≡◌, None, Some, map, slice_get};
 ghost use Rattle.std.specs.Option.{option_map};
+ghost use Rattle.session_table.specs.Slots.{held_at};
 ghost use Rattle.dynauth_server.specs.Roll as roll;
 ghost use Rattle.host_session.specs.Sits.{right_in};
 ghost use Rattle.switch_defs.specs.Switch as switch;
@@ -18,10 +19,12 @@ use wire_core::Mac;
 
 impl Sessions {
     /// The number of the session at a place, and the VLAN that its host is forwarded into, where the
-    /// restricted VLAN of its port is this, or 0 for none (IEEE Std 802.1X-2004, 8.2.2.2).
+    /// restricted VLAN of its port is this, or 0 for none (IEEE Std 802.1X-2004, 8.2.2.2). None
+    /// exactly where it is not forwarded, or no session is there.
     pub fn right(&self, at: usize, restricted: u16) -> Option<(u32, u16)>
-        ensures { (y : switch.Session) (s : State) → IsAt at y self.now s →
+        ensures right { (y : switch.Session) (s : State) → IsAt at y self.now s →
             right_in result ≡ right_by restricted y }
+        ensures none { held_at at self.now.slots ≡ None → result ≡ None }
     {
         match self.slots.get(at) {
             Some(session) => session.right(restricted),
@@ -31,8 +34,9 @@ impl Sessions {
 
     /// The port and the address of the host of the session at a place; none exactly where there is none.
     pub fn key(&self, at: usize) -> Option<(u8, Mac)>
-        ensures { (y : switch.Session) (s : State) → IsAt at y self.now s →
+        ensures key { (y : switch.Session) (s : State) → IsAt at y self.now s →
             result ≡ Some (y.host.port, record { 0 = y.host.address }) }
+        ensures none { held_at at self.now.slots ≡ None → result ≡ None }
     {
         self.slots.key(at)
     }

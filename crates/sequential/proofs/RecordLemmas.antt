@@ -1,5 +1,5 @@
 -- Records that are run one after another.
-use Rattle.std.proofs.Common.{◌≡◌, ℕ, ◌+◌, ◌≤◌, true, List, [], ◌∷◌, ◌++◌, map, refl, sym, ap, ◌∙◌, subst, append_assoc, append-nil}
+use Rattle.std.proofs.Common.{◌≡◌, ℕ, ◌+◌, ◌≤◌, true, List, [], ◌∷◌, ◌++◌, map, Result, Ok, Err, OnErr, refl, sym, ap, ◌∙◌, subst, append_assoc, append-nil}
 use Rattle.std.proofs.lemmas.List.{map-append}
 use Rattle.switch_event.specs.Config.{Config, is_valid}
 use Rattle.switch_event.specs.Event.{Happening}
@@ -22,6 +22,10 @@ use Rattle.trace_record.specs.declared.TraceRecord.{TraceRecord}
 use Rattle.trace_record.specs.Entered.{entered, entered_all}
 use Rattle.sequential.specs.declared.sequential.Sequential.{Sequential}
 use Rattle.sequential.specs.Records.{Stands, Turned, Prints, PrintsAll, MayRunOne, MayRunAt}
+
+pub on_err : {T E P : Type 0} (r : Result T E) → P → OnErr r P
+on_err (Ok x) h = tt
+on_err (Err e) h = h
 
 -- of records that may be run, each at its place
 pub may_next : (at : Place) (xs : List Record) (r : Record) (ys : List Record) → MayRunAt at (xs ++ r ∷ ys) → MayRunOne (place_after at xs) r

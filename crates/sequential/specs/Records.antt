@@ -1,5 +1,5 @@
 -- The records of a trace, and what runs them on one thread.
-use Rattle.std.specs.Prelude.{◌≡◌, ℕ, ◌+◌, ◌<◌, ◌≤◌, ◌^◌, ◌++◌, List, [], ◌∷◌}
+use Rattle.std.specs.Prelude.{◌≡◌, ℕ, ◌+◌, ◌<◌, ◌≤◌, ◌^◌, ◌++◌, List, [], ◌∷◌, length, take}
 use Rattle.switch_event.specs.Event.{Happening}
 use Rattle.switch_event.specs.declared.event.Outcome.{Outcome}
 use Rattle.event_record.specs.declared.TheConstants.{MOST_EVENTS}
@@ -54,6 +54,12 @@ abbrev pub PrintsAll : {A : Type 0} → (A → State → Type 0) → (A → ℕ)
 PrintsAll stands made old new records text after = (at : Place) → Stands stands made old at
     → (after ≡ text ++ blocks at (entered_all records))
     × Stands stands made new (place_after at (entered_all records))
+
+-- some first ones of the records were run in order, not all, and their blocks were added
+abbrev pub PrintsSome : {A : Type 0} → (A → State → Type 0) → (A → ℕ) → (old : Sequential A)
+    → List TraceRecord → List ℕ → List ℕ → Type 0
+PrintsSome stands made old records text after = (n : ℕ) × (n < length records)
+    × (mid : _) × PrintsAll stands made old mid (take n records) text after
 
 -- at this place the record may be run
 abbrev pub MayRunOne : Place → Record → Type 0

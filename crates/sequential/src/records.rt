@@ -1,12 +1,12 @@
 // The records of a trace: they are run in order, and their blocks printed.
-ghost use Rattle.std.specs.Prelude.{◌≡◌, ◌<◌, ◌+◌, ◌^◌, ℕ, OnOk};
+ghost use Rattle.std.specs.Prelude.{◌≡◌, ◌<◌, ◌+◌, ◌^◌, ℕ, OnOk, OnErr};
 ghost use Rattle.trace_defs.specs.Line.Record.{Control as ControlEntry, Data as DataEntry};
 ghost use Rattle.event_record.specs.declared.TheConstants.{MOST_EVENTS};
 ghost use Rattle.event_record.specs.Record.{event_of};
 ghost use Rattle.history_defs.specs.Output.{Place};
 ghost use Rattle.authenticator.specs.Meaning.{IsEvent};
 ghost use Rattle.trace_record.specs.Entered.{entered, entered_all};
-ghost use Rattle.sequential.specs.Records.{Stands, Turned, Prints, Sends, PrintsAll, MayRunOne, MayRunAt};
+ghost use Rattle.sequential.specs.Records.{Stands, Turned, Prints, Sends, PrintsAll, PrintsSome, MayRunOne, MayRunAt};
 
 use crate::sequential::Sequential;
 use arrayvec::ArrayVec;
@@ -23,8 +23,8 @@ const LANE: u8 = 1;
 
 impl<A: Authenticator + Drop> Sequential<A> {
     /// Runs records in order, and appends their blocks to the text. They are those that may come at
-    /// their places, and there is room for their numbers. `AllocError`: there is no memory; then it
-    /// is not used again.
+    /// their places, and there is room for their numbers. `AllocError`: there is no memory; then the
+    /// blocks of the first ones are appended, and it is not used again.
     pub fn run_records(
         &mut self,
         records: &[TraceRecord],
@@ -35,6 +35,8 @@ impl<A: Authenticator + Drop> Sequential<A> {
         ensures blocks { OnOk result
             (PrintsAll A.stands A.made self.old self.new records.now text.old.items
             text.new.items) }
+        ensures short { OnErr result
+            (PrintsSome A.stands A.made self.old records.now text.old.items text.new.items) }
     {
         for entry in records {
             self.run_record(entry, text)?;
@@ -42,14 +44,15 @@ impl<A: Authenticator + Drop> Sequential<A> {
         Ok(())
     }
 
-    /// Runs a record, and appends its block to the text. `AllocError`: there is no memory; then it
-    /// is not used again.
+    /// Runs a record, and appends its block to the text. `AllocError`: there is no memory; then the
+    /// text is as before, and it is not used again.
     pub fn run_record(&mut self, entry: &TraceRecord, text: &mut Vec<u8>) -> Result<(), AllocError>
         requires place { (at : Place) × Stands A.stands A.made self.old at
             × MayRunOne at (entered entry.now) }
         ensures block { OnOk result
             (Prints A.stands A.made self.old self.new (entered entry.now) text.old.items
             text.new.items) }
+        ensures kept { OnErr result (text.new.items ≡ text.old.items) }
     {
         match entry {
             TraceRecord::Control { lane: _, what } => self.run_control(what, text),
@@ -58,7 +61,8 @@ impl<A: Authenticator + Drop> Sequential<A> {
     }
 
     /// Runs a control record, and appends its block to the text, with lane 1. The tray has what is
-    /// sent. `AllocError`: there is no memory for the block; then it is not used again.
+    /// sent. `AllocError`: there is no memory for the block; then the turn is made and not counted,
+    /// the text is as before, and it is not used again.
     pub fn run_control(&mut self, what: &Record, text: &mut Vec<u8>) -> Result<(), AllocError>
         requires place { (at : Place) × (lane : ℕ) × Stands A.stands A.made self.old at
             × MayRunOne at (ControlEntry lane (event_of what.now)) }
@@ -66,6 +70,9 @@ impl<A: Authenticator + Drop> Sequential<A> {
             (Prints A.stands A.made self.old self.new (ControlEntry lane (event_of what.now))
             text.old.items text.new.items) }
         ensures sent { Sends A.stands A.made self.old self.new (event_of what.now) }
+        ensures counted { OnErr result ((self.new.number ≡ self.old.number)
+            × (self.new.serial ≡ self.old.serial)) }
+        ensures kept { OnErr result (text.new.items ≡ text.old.items) }
     {
         let outcome = self.turn(what);
         print_control(self.number, LANE, self.serial, &outcome, &self.tray, text)?;
@@ -92,7 +99,7 @@ impl<A: Authenticator + Drop> Sequential<A> {
     }
 
     /// Runs a data record, and appends its block to the text. `AllocError`: there is no memory for
-    /// the block, and nothing was run.
+    /// the block; then all is as before.
     pub fn run_data(
         &mut self,
         port: u8,
@@ -103,6 +110,8 @@ impl<A: Authenticator + Drop> Sequential<A> {
         ensures block { OnOk result
             (Prints A.stands A.made self.old self.new (DataEntry port octets.now) text.old.items
             text.new.items) }
+        ensures kept { OnErr result ((self.new ≡ self.old)
+            × (text.new.items ≡ text.old.items)) }
     {
         let decided = Decided {
             front: self.serial,

@@ -88,10 +88,9 @@ impl Lines {
         self.ended = false;
     }
 
-    /// Takes a whole piece of text, and appends what is kept of each line that the piece ends. The
-    /// last line must not have ended. `AllocError`: there is no memory for a line; what was taken
-    /// by then stays.
-    pub fn feed_all(
+    // Takes a whole piece of text, and appends what is kept of each line that the piece ends. The
+    // last line must not have ended.
+    fn feed_all(
         &mut self,
         alloc: Global,
         piece: &[u8],

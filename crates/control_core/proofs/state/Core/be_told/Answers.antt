@@ -26,7 +26,7 @@ unreachable-requires-in_default-key c =
     let y : Session = m.0 in
     let u : State = forget y.host m.1 in
     let at = kept_at c.numbered.result c.in-Some.at (session_numbered c.args.taken.now.session u) y c.args.self.now.sessions u (c.numbered.ensures u m.2.holds.sessions) c.in-Some.is m.2.named in
-    none_is_some (sym c.in_default-key.is ∙ c.key.ensures y u at)
+    none_is_some (sym c.in_default-key.is ∙ c.key.ensures.key y u at)
 
 pub said-told-requires-clause-native : goal.said-told-requires-clause-native
 said-told-requires-clause-native c =
@@ -35,7 +35,7 @@ said-told-requires-clause-native c =
     let s : State = m.1 in
     let u : State = forget y.host s in
     let at = kept_at c.numbered.result c.in-Some.at (session_numbered c.args.taken.now.session u) y c.args.self.now.sessions u (c.numbered.ensures u m.2.holds.sessions) c.in-Some.is m.2.named in
-    let key : (c.in-Some-key.port, c.in-Some-key.mac) ≡ (y.host.port, record { 0 = y.host.address }) = same_Some _ (y.host.port, record { 0 = y.host.address }) (sym c.in-Some-key.is ∙ c.key.ensures y u at) in
+    let key : (c.in-Some-key.port, c.in-Some-key.mac) ≡ (y.host.port, record { 0 = y.host.address }) = same_Some _ (y.host.port, record { 0 = y.host.address }) (sym c.in-Some-key.is ∙ c.key.ensures.key y u at) in
     let port : c.in-Some-key.port ≡ y.host.port = ap (λ (p : ℕ × Mac). p.0) key in
     ap is_vlan (c.native.ensures u m.2.holds ∙ ap (λ (n : ℕ). native_of (port_of n s)) port) ∙ native_here s y m.2.sound at.there
 
@@ -47,7 +47,7 @@ be_told-closed-requires-clause-may c =
     let t : Taking = taking c.args.taken.now in
     let u : State = forget y.host s in
     let at = kept_at c.numbered.result c.in-Some.at (session_numbered t.session u) y c.args.self.now.sessions u (c.numbered.ensures u m.2.holds.sessions) c.in-Some.is m.2.named in
-    let key : (c.in-Some-key.port, c.in-Some-key.mac) ≡ (y.host.port, record { 0 = y.host.address }) = same_Some _ (y.host.port, record { 0 = y.host.address }) (sym c.in-Some-key.is ∙ c.key.ensures y u at) in
+    let key : (c.in-Some-key.port, c.in-Some-key.mac) ≡ (y.host.port, record { 0 = y.host.address }) = same_Some _ (y.host.port, record { 0 = y.host.address }) (sym c.in-Some-key.is ∙ c.key.ensures.key y u at) in
     let port : c.in-Some-key.port ≡ y.host.port = ap (λ (p : ℕ × Mac). p.0) key in (
       y,
       says s t y,
@@ -62,7 +62,7 @@ returns-clause-does c = λ y s m.
     let u : State = forget y.host s in
     let x : Standing = stands (says s t y) y.standing in
     let at = kept_at c.numbered.result c.in-Some.at (session_numbered t.session u) y c.args.self.now.sessions u (c.numbered.ensures u m.holds.sessions) c.in-Some.is m.named in
-    let key : (c.in-Some-key.port, c.in-Some-key.mac) ≡ (y.host.port, record { 0 = y.host.address }) = same_Some _ (y.host.port, record { 0 = y.host.address }) (sym c.in-Some-key.is ∙ c.key.ensures y u at) in
+    let key : (c.in-Some-key.port, c.in-Some-key.mac) ≡ (y.host.port, record { 0 = y.host.address }) = same_Some _ (y.host.port, record { 0 = y.host.address }) (sym c.in-Some-key.is ∙ c.key.ensures.key y u at) in
     let port : c.in-Some-key.port ≡ y.host.port = ap (λ (p : ℕ × Mac). p.0) key in
     let address : c.in-Some-key.mac.0 ≡ y.host.address = ap (λ (p : ℕ × Mac). p.1.0) key in
     let means = means_so c.said-told.result t _ c.native.result s y c.said-told.ensures.says c.eap_of.ensures.value (c.native.ensures u m.holds ∙ ap (λ (n : ℕ). native_of (port_of n s)) port) in

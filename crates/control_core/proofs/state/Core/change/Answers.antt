@@ -15,7 +15,7 @@ returns-clause-holds c = λ s y stands numbered.
     let x : Standing = times_or c.args.timeout s (vlan_or c.args.vlan y.standing) in
     let t : State = place y.host x s in
     let here = found_at core.sessions s c.in-Some.at y _ numbered (c.in-Some.ensures s stands.holds.sessions) in
-    let host = of_key y.host (c.in-Some-key.port, c.in-Some-key.mac) (c.in-Some-key.ensures y s here) in
+    let host = of_key y.host (c.in-Some-key.port, c.in-Some-key.mac) (c.in-Some-key.ensures.key y s here) in
     c.follow.ensures.holds t
     (lags false y.host c.in-Some-key.port c.in-Some-key.mac.0 core c.change.new.self s t host stands.holds (beside_place y.host x s) (c.change.ensures.holds y s stands.holds.sessions here))
 
@@ -25,7 +25,7 @@ returns-clause-told c = λ s y stands numbered.
     let x : Standing = times_or c.args.timeout s (vlan_or c.args.vlan y.standing) in
     let t : State = place y.host x s in
     let here = found_at core.sessions s c.in-Some.at y _ numbered (c.in-Some.ensures s stands.holds.sessions) in
-    let host = of_key y.host (c.in-Some-key.port, c.in-Some-key.mac) (c.in-Some-key.ensures y s here) in
+    let host = of_key y.host (c.in-Some-key.port, c.in-Some-key.mac) (c.in-Some-key.ensures.key y s here) in
     let vlan = changed_vlan c.args.vlan c.args.timeout s y c.requires.vlan (of_each HasVlan stands.sound.vlans here.there) in
     c.follow.ensures.told s t y.host
     (lags false y.host c.in-Some-key.port c.in-Some-key.mac.0 core c.change.new.self s t host stands.holds (beside_place y.host x s) (c.change.ensures.holds y s stands.holds.sessions here))

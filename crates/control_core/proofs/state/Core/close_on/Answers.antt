@@ -13,7 +13,7 @@ use Rattle.control_core.proofs.state.Core.close_on.Goals as goal
 pub returns-clause-holds : goal.returns-clause-holds
 returns-clause-holds c = λ t y m.
     let at : IsAt c.in-Some.at y c.args.self.now.sessions t = at_place c.args.n c.in-Some.at y c.args.self.now t (c.in-Some.ensures t m.holds.sessions) m.next in
-    let key = key_is (c.in-Some-key.its_port, c.in-Some-key.mac) y.host (c.in-Some-key.ensures y t at) in
+    let key = key_is (c.in-Some-key.its_port, c.in-Some-key.mac) y.host (c.in-Some-key.ensures.key y t at) in
     let port : y.host.port ≡ c.args.port = sym key.0 ∙ c.if-its_port-port.false in
     let on : on_port c.args.port y ≡ true = (unsigned_Decides y.host.port c.args.port).1 port in
     let lags : Lags true c.args.port (record c.args.self.now { sessions = c.close.new.self }) (close y.host t) =
@@ -23,7 +23,7 @@ returns-clause-holds c = λ t y m.
 pub returns-clause-told : goal.returns-clause-told
 returns-clause-told c = λ t y m.
     let at : IsAt c.in-Some.at y c.args.self.now.sessions t = at_place c.args.n c.in-Some.at y c.args.self.now t (c.in-Some.ensures t m.holds.sessions) m.next in
-    let key = key_is (c.in-Some-key.its_port, c.in-Some-key.mac) y.host (c.in-Some-key.ensures y t at) in
+    let key = key_is (c.in-Some-key.its_port, c.in-Some-key.mac) y.host (c.in-Some-key.ensures.key y t at) in
     let port : y.host.port ≡ c.args.port = sym key.0 ∙ c.if-its_port-port.false in
     let on : on_port c.args.port y ≡ true = (unsigned_Decides y.host.port c.args.port).1 port in
     let lags : Lags true c.args.port (record c.args.self.now { sessions = c.close.new.self }) (close y.host t) =

@@ -5,6 +5,10 @@ use Rattle.session_table.specs.Slots.{key_of}
 use Rattle.host_session.specs.declared.session.Session.{Session}
 use Rattle.host_sessions.proofs.sessions.Sessions.key.Goals as goal
 
-pub returns : goal.returns
-returns c = λ y s at.
+pub returns-clause-key : goal.returns-clause-key
+returns-clause-key c = λ y s at.
     c.key.ensures ∙ ap (option_map (key_of {T = Session})) at.here ∙ (λ i. Some (at.is.port i, record { 0 = at.is.address i }))
+
+pub returns-clause-none : goal.returns-clause-none
+returns-clause-none c = λ empty.
+    c.key.ensures ∙ ap (option_map (key_of {T = Session})) empty

@@ -1,6 +1,7 @@
-use Rattle.std.proofs.Common.{take, drop, ap, ◌∙◌, sym, ◌∷◌, [], ◌++◌, ◌+◌, append_assoc, ◌≡◌}
+use Rattle.std.proofs.Common.{take, drop, ap, subst, ◌∙◌, sym, ◌∷◌, [], ◌++◌, ◌+◌, append_assoc, ◌≡◌}
 use Rattle.std.proofs.lemmas.List.{take_more, take_all, take-append-drop}
-use Rattle.sequential.proofs.RecordLemmas.{PrintsAll-none, PrintsAll-more, PrintsAll-whole, may_one}
+use Rattle.sequential.specs.Records.{PrintsAll}
+use Rattle.sequential.proofs.RecordLemmas.{PrintsAll-none, PrintsAll-more, PrintsAll-whole, may_one, on_err}
 use Rattle.sequential.proofs.sequential.Sequential.run_records.Goals as goal
 
 pub loop-entry-init : goal.loop-entry-init
@@ -23,7 +24,17 @@ loop-entry-preserved g c =
     PrintsAll-more g.A.Authenticator.stands g.A.Authenticator.made c.args.self.now c.loop-entry.self c.run_record.new.self _ _ c.entry-item.result _ _ _ c.loop-entry.invariant c.in_ok-run_record.ensures.block
     (take_more c.args.records.now c.loop-entry.entry-index c.entry-item.result c.loop-entry-test.true ∙ ap (λ r. take c.loop-entry.entry-index c.args.records.now ++ r ∷ []) (sym c.entry-item.is))
 
-pub returns : goal.returns
-returns g c = record {
-  blocks = PrintsAll-whole g.A.Authenticator.stands g.A.Authenticator.made c.args.self.now c.loop-entry.self _ _ _ _ c.loop-entry.invariant (take_all c.loop-entry.entry-index c.args.records.now c.loop-entry-test.false);
-}
+pub returns-clause-blocks : goal.returns-clause-blocks
+returns-clause-blocks g c =
+    PrintsAll-whole g.A.Authenticator.stands g.A.Authenticator.made c.args.self.now c.loop-entry.self _ _ _ _ c.loop-entry.invariant (take_all c.loop-entry.entry-index c.args.records.now c.loop-entry-test.false)
+
+pub returns-in_err-run_record-clause-short : goal.returns-in_err-run_record-clause-short
+returns-in_err-run_record-clause-short g c =
+    let all = c.args.records.now in
+    let i = c.loop-entry.entry-index in
+    on_err c.from_residual.result (
+      i,
+      c.loop-entry-test.true,
+      c.loop-entry.self,
+      subst (PrintsAll g.A.Authenticator.stands g.A.Authenticator.made c.args.self.now c.loop-entry.self (take i all) c.args.text.now.items) (sym c.in_err-run_record.ensures.kept) c.loop-entry.invariant,
+    )
