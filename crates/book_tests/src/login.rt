@@ -1,6 +1,5 @@
 // A host logs in and is cut off, where each call that is refused is made once more.
 ghost use Rattle.std.specs.Prelude.{◌≡◌, ◌≤◌, true, IfOk};
-ghost use Rattle.switch_event.specs.Config.{is_valid};
 ghost use Rattle.switch_event.specs.Event.{happening};
 ghost use Rattle.switch_defs.specs.Switch.{most_sessions};
 ghost use Rattle.authenticator.specs.Meaning.{IsEvent};
@@ -16,8 +15,8 @@ use out_tray::Tray;
 use std::alloc::{AllocError, Global};
 use std::sync::Wait;
 use std::test::Fail;
-use switch_book::{Answer, Book, BookErr};
-use switch_event::{Client, Config, Decided, Decision, Drop9, Event, Outcome, PortConf};
+use switch_book::{Book, BookErr};
+use switch_event::{Client, Config, Decision, Drop9, Event, Outcome, PortConf};
 use wire_core::Addr;
 
 // The octets are those of a trace whose output another program made.
@@ -71,71 +70,80 @@ fn may_come(settings: &Config, e: &Event<'_>) -> bool
     }
 }
 
-// Which call was refused.
-#[derive(Drop)]
-struct Refused {
-    call: &'static str,
+// A book under these settings, what its last event sends, and which call was refused last.
+struct Desk {
+    book: Book<Core>,
+    settings: Config,
+    tray: Tray,
+    refused: &'static str,
 }
 
-fn open_again<R: Wait>(
-    rt: &R,
-    alloc: Global,
-    settings: &Config,
-    refused: &mut Refused,
-) -> Result<(Book<Core>, Vec<Worker>), AllocError>
-    requires valid { is_valid settings.now ≡ true }
-    ensures config { IfOk result (λ r. r.0.config ≡ settings.now) }
+// A desk and the workers of its book: each call is made once more where it was refused.
+fn open_desk<R: Wait>(rt: &R, alloc: Global) -> Result<(Desk, Vec<Worker>), AllocError>
+    ensures config { IfOk result (λ r. r.0.book.config ≡ r.0.settings) }
+    ensures room { IfOk result (λ r. most_sessions ≤ r.0.tray.sessions) }
 {
-    match Book::<Core>::open(rt, alloc, copied_config(settings), 1) {
-        Ok(opened) => Ok(opened),
+    let mut refused = "none";
+    let tray = match Tray::open(alloc, 960) {
+        Ok(tray) => tray,
         Err(_) => {
-            refused.call = "open";
-            Book::<Core>::open(rt, alloc, copied_config(settings), 1)
+            refused = "Tray::open";
+            Tray::open(alloc, 960)?
         }
-    }
-}
-
-fn tray_again(alloc: Global, refused: &mut Refused) -> Result<Tray, AllocError>
-    ensures room { IfOk result (λ t. most_sessions ≤ t.sessions) }
-{
-    match Tray::open(alloc, 960) {
-        Ok(tray) => Ok(tray),
-        Err(_) => {
-            refused.call = "Tray::open";
-            Tray::open(alloc, 960)
-        }
-    }
-}
-
-// Offers an event, and once more where there was no memory: its serial, and what became of it.
-fn offer<R: Wait>(
-    rt: &R,
-    book: &mut Book<Core>,
-    settings: &Config,
-    tray: &mut Tray,
-    refused: &mut Refused,
-    call: &'static str,
-    e: &Event<'_>,
-) -> Option<(u64, Outcome)>
-    requires config { book.old.config ≡ settings.now }
-    requires room { most_sessions ≤ tray.old.sessions }
-    ensures config { book.new.config ≡ settings.now }
-    ensures room { most_sessions ≤ tray.new.sessions }
-{
-    if !may_come(settings, e) {
-        return None;
-    }
-    let answer = match book.control(rt, 1, e, tray) {
-        Err(BookErr::NoMemory) => {
-            refused.call = call;
-            book.control(rt, 1, e, tray)
-        }
-        other => other,
     };
-    match answer {
-        Ok(answer) => Some((answer.serial, answer.outcome)),
-        Err(_) => None,
+    let settings = settings();
+    if !settings.valid() {
+        return Err(AllocError);
     }
+    let (book, workers) = match Book::<Core>::open(rt, alloc, copied_config(&settings), 1) {
+        Ok(opened) => opened,
+        Err(_) => {
+            refused = "open";
+            Book::<Core>::open(rt, alloc, copied_config(&settings), 1)?
+        }
+    };
+    let desk = Desk {
+        book,
+        settings,
+        tray,
+        refused,
+    };
+    Ok((desk, workers))
+}
+
+impl Desk {
+    // Offers an event, and once more where there was no memory: its serial, and what became of it.
+    fn offer<R: Wait>(
+        &mut self,
+        rt: &R,
+        call: &'static str,
+        e: &Event<'_>,
+    ) -> Option<(u64, Outcome)>
+        requires config { self.old.book.config ≡ self.old.settings }
+        requires room { most_sessions ≤ self.old.tray.sessions }
+        ensures config { self.new.book.config ≡ self.new.settings }
+        ensures room { most_sessions ≤ self.new.tray.sessions }
+    {
+        if !may_come(&self.settings, e) {
+            return None;
+        }
+        let answer = match self.book.control(rt, 1, e, &mut self.tray) {
+            Err(BookErr::NoMemory) => {
+                self.refused = call;
+                self.book.control(rt, 1, e, &mut self.tray)
+            }
+            other => other,
+        };
+        match answer {
+            Ok(answer) => Some((answer.serial, answer.outcome)),
+            Err(_) => None,
+        }
+    }
+}
+
+// A frame that came in on port 1.
+fn frame(octets: &[u8]) -> Event<'_> {
+    Event::Frame { port: 1, octets }
 }
 
 // Run with each allocation failing in turn, it shows that a refusal leaves all as it was, and that
@@ -147,120 +155,60 @@ fn a_login_is_as_if_nothing_was_refused(rt: HostRuntime) -> Result<(), Fail> {
     let accept = <[u8; 60] as FromHex>::from_hex(ACCEPT)?;
     let disconnect = <[u8; 48] as FromHex>::from_hex(DISCONNECT)?;
     let data = <[u8; 16] as FromHex>::from_hex(DATA)?;
-    let settings = settings();
-    assert!(rt; settings.valid());
+    let stranger = Decision::Drop(Drop9::Unauthorised);
+    let forward = Decision::Forward {
+        session: 1,
+        vlan: 42,
+    };
 
-    let mut refused = Refused { call: "none" };
-    let mut tray = tray_again(rt.alloc(), &mut refused)?;
-    let opened = open_again(&rt, rt.alloc(), &settings, &mut refused);
-    let (mut book, mut workers) = opened.expect(&rt, "the second time");
+    let (mut desk, mut workers) = open_desk(&rt, rt.alloc())?;
     let mut worker = workers.pop().expect(&rt, "a worker");
     let mut out = ArrayVec::new();
 
     let link = Event::Link { port: 1, up: true };
-    let done = offer(
-        &rt,
-        &mut book,
-        &settings,
-        &mut tray,
-        &mut refused,
-        "link",
-        &link,
-    );
+    let done = desk.offer(&rt, "link", &link);
     assert_eq!(rt; done, Some((0, Outcome::Done)));
-    let frame = Event::Frame {
-        port: 1,
-        octets: &start,
-    };
-    let done = offer(
-        &rt,
-        &mut book,
-        &settings,
-        &mut tray,
-        &mut refused,
-        "Start",
-        &frame,
-    );
+    let done = desk.offer(&rt, "Start", &frame(&start));
     assert_eq!(rt; done, Some((1, Outcome::Done)));
-    let frame = Event::Frame {
-        port: 1,
-        octets: &identity,
-    };
-    let done = offer(
-        &rt,
-        &mut book,
-        &settings,
-        &mut tray,
-        &mut refused,
-        "Response",
-        &frame,
-    );
+    let done = desk.offer(&rt, "Response", &frame(&identity));
     assert_eq!(rt; done, Some((2, Outcome::Done)));
     let before = worker.forward(1, &data, &mut out).expect(&rt, "an entry");
-    assert_eq!(rt;
-        before,
-        Decided {
-            front: 3,
-            decision: Decision::Drop(Drop9::Unauthorised)
-        }
-    );
+    assert_eq!(rt; before.front, 3);
+    assert_eq!(rt; before.decision, stranger);
 
     let answer = Event::Radius {
         socket: 0,
         octets: &accept,
     };
-    let done = offer(
-        &rt,
-        &mut book,
-        &settings,
-        &mut tray,
-        &mut refused,
-        "Accept",
-        &answer,
-    );
+    let done = desk.offer(&rt, "Accept", &answer);
     assert_eq!(rt; done, Some((3, Outcome::Done)));
-    assert_eq!(rt; book.sessions(), 1);
+    assert_eq!(rt; desk.book.sessions(), 1);
     let beside = worker.forward(1, &data, &mut out).expect(&rt, "an entry");
-    assert_eq!(rt;
-        beside,
-        Decided {
-            front: 4,
-            decision: Decision::Forward {
-                session: 1,
-                vlan: 42
-            }
-        }
-    );
+    assert_eq!(rt; beside.front, 4);
+    assert_eq!(rt; beside.decision, forward);
     assert_eq!(rt; out.len(), 20);
 
     let request = Event::Dynamic {
         from: CLIENT,
         octets: &disconnect,
     };
-    let done = offer(
-        &rt,
-        &mut book,
-        &settings,
-        &mut tray,
-        &mut refused,
-        "Disconnect",
-        &request,
-    );
+    let done = desk.offer(&rt, "Disconnect", &request);
     assert_eq!(rt; done, Some((4, Outcome::Acked)));
     let after = worker.forward(1, &data, &mut out).expect(&rt, "an entry");
-    assert_eq!(rt;
-        after,
-        Decided {
-            front: 5,
-            decision: Decision::Drop(Drop9::Unauthorised)
-        }
-    );
+    assert_eq!(rt; after.front, 5);
+    assert_eq!(rt; after.decision, stranger);
 
-    assert_eq!(rt; book.journal().len(), 5);
-    assert!(rt; book.finish(&rt).is_ok());
     drop(worker);
     drop(workers);
+    let Desk {
+        mut book,
+        settings: _,
+        tray: _,
+        refused,
+    } = desk;
+    assert_eq!(rt; book.journal().len(), 5);
+    assert!(rt; book.finish(&rt).is_ok());
     book.end(&rt);
-    println!(rt; "refused: {}", refused.call)?;
+    println!(rt; "refused: {refused}")?;
     Ok(())
 }
