@@ -81,6 +81,11 @@ fn run<T: Threads + Wait + Net + Sync>(
     let mut out = MemSink::new(alloc, ROOM, &[])?;
     let mut err = MemSink::new(alloc, ROOM, &[])?;
     let status = called(rt, alloc, &all, &mut source, &mut out, &mut err)?;
+    told(alloc, status, &out, &err)
+}
+
+// The status with what the sinks took.
+fn told(alloc: Global, status: u8, out: &MemSink, err: &MemSink) -> Result<Ran, AllocError> {
     Ok(Ran {
         status,
         out: out.taken().to_vec(alloc)?,
@@ -538,42 +543,55 @@ fn words_that_are_no_form_are_said(rt: HostRuntime) -> Result<(), Fail> {
     Ok(())
 }
 
-#[test]
-fn a_server_logs_a_frame_and_answers_its_sender(rt: HostRuntime) -> Result<(), Fail> {
-    let words = words_of(rt.alloc(), &["serve", "5001", "5010", "5003", "2"])?;
-    let sender = Addr {
-        ip: [127, 0, 0, 1],
-        port: 6000,
-    };
-    let mut link = MemLink::new(rt.alloc(), ROOM, &[])?;
-    link.give(
-        rt.alloc(),
-        0,
-        sender,
-        b"\x01\x01\x80\xc2\x00\x00\x03\x02\x00\x00\x00\x00\xaa\x88\x8e\x01\x01\x00\x00",
-    )?;
-    link.give(rt.alloc(), 0, sender, b"\xff")?;
-    let mut clock = ListClock::new(rt.alloc(), &[1000])?;
-    let mut source = MemSource::new(rt.alloc(), SETTINGS.as_bytes(), 4096, &[])?;
-    let mut out = MemSink::new(rt.alloc(), ROOM, &[])?;
-    let mut err = MemSink::new(rt.alloc(), ROOM, &[])?;
+const SENDER: Addr = Addr {
+    ip: [127, 0, 0, 1],
+    port: 6000,
+};
+
+// A Start on port 1 waits on the channel of frames, and behind it what is too short to name a port.
+fn waiting(alloc: Global) -> Result<MemLink, AllocError> {
+    let start = b"\x01\x01\x80\xc2\x00\x00\x03\x02\x00\x00\x00\x00\xaa\x88\x8e\x01\x01\x00\x00";
+    let mut link = MemLink::new(alloc, ROOM, &[])?;
+    link.give(alloc, 0, SENDER, start)?;
+    link.give(alloc, 0, SENDER, b"\xff")?;
+    Ok(link)
+}
+
+// A server of two turns over this link.
+fn serve<T: Threads + Wait + Net + Sync>(
+    rt: &T,
+    alloc: Global,
+    link: &mut MemLink,
+) -> Result<Ran, AllocError> {
+    let words = words_of(alloc, &["serve", "5001", "5010", "5003", "2"])?;
+    let mut clock = ListClock::new(alloc, &[1000])?;
+    let mut source = MemSource::new(alloc, SETTINGS.as_bytes(), 4096, &[])?;
+    let mut out = MemSink::new(alloc, ROOM, &[])?;
+    let mut err = MemSink::new(alloc, ROOM, &[])?;
     let status = top(
-        &rt,
-        rt.alloc(),
+        rt,
+        alloc,
         &words,
         &mut source,
         &mut out,
         &mut err,
-        &mut link,
+        link,
         &mut clock,
     );
+    told(alloc, status, &out, &err)
+}
+
+#[test]
+fn a_server_logs_a_frame_and_answers_its_sender(rt: HostRuntime) -> Result<(), Fail> {
+    let mut link = waiting(rt.alloc())?;
+    let ran = serve(&rt, rt.alloc(), &mut link)?;
     let end =
         "frame 1 0180c20000030200000000aa888e01010000\n# c 4 @1 3 ok\n# f 1 0200000000aa020000010101888e020000050101000501\n";
-    assert_eq!(rt; status, 0);
-    assert_eq!(rt; err.taken(), b"".as_slice());
-    assert!(rt; out.taken().ends_with(end.as_bytes()));
-    let (channel, to, octets) = link.sent(0).unwrap_or((9, sender, b""));
-    assert_eq!(rt; (channel, to), (0, sender));
+    assert_eq!(rt; ran.status, 0);
+    assert_eq!(rt; ran.err.as_slice(), b"".as_slice());
+    assert!(rt; ran.out.ends_with(end.as_bytes()));
+    let (channel, to, octets) = link.sent(0).unwrap_or((9, SENDER, b""));
+    assert_eq!(rt; (channel, to), (0, SENDER));
     assert_eq!(rt; octets.len(), 23);
     assert!(rt; link.sent(1).is_none());
     Ok(())
