@@ -1,8 +1,8 @@
 -- A change by what is kept of it.
 use Rattle.std.specs.Prelude.{Bool, true, false, List, map}
-use Rattle.auth_table.specs.declared.change.Item.{Item}
+use Rattle.table_defs.specs.declared.change.Item.{Item}
 use Rattle.table_defs.specs.Table.{Change, Items, Finish}
-use Rattle.auth_table.specs.Meaning.{item_of}
+use Rattle.table_defs.specs.Change.{item_of}
 
 abbrev pub change_kept : (ends : Bool) → List Item → Change
 change_kept true is = Finish

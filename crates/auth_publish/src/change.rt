@@ -1,10 +1,11 @@
 //! A change as it is kept until both copies of the table have it.
 ghost use Rattle.std.specs.Prelude.{◌≡◌, map, IfOk};
 ghost use Rattle.table_defs.specs.Table.{Items, Finish, changed};
-ghost use Rattle.auth_table.specs.Meaning.{item_of};
+ghost use Rattle.table_defs.specs.Change.{item_of};
 ghost use Rattle.auth_publish.specs.Changes.{is_finish};
 
-use auth_table::{Item, Table, absorb};
+use auth_table::{Table, absorb};
+use table_defs::Item;
 use std::alloc::{AllocError, Global};
 use std::marker::Model;
 

@@ -1,7 +1,7 @@
 //! The publisher.
 ghost use Rattle.std.specs.Prelude.{◌≡◌, ◌<◌, ◌≤◌, [], ◌∷◌, ◌++◌, true, false, length, map, drop, fold, All, IfOk, IsOk, OnErr};
 ghost use Rattle.table_defs.specs.Table.{Items, Finish, changed_by};
-ghost use Rattle.auth_table.specs.Meaning.{item_of};
+ghost use Rattle.table_defs.specs.Change.{item_of};
 ghost use Rattle.auth_publish.specs.Changes.{is_open, front_of};
 ghost use Rattle.auth_publish.specs.Deeds.{done, IsNext};
 ghost use Rattle.auth_publish.specs.Rules.{known_by, first_of, IsPlaced};
@@ -10,7 +10,8 @@ use crate::change::Posted;
 use crate::receipt::{Head, Receipt, begin};
 use crate::rule::{Arrives, Begins, Copies, Deed, Law, Opening, Posts, Published};
 use crate::viewer::Viewer;
-use auth_table::{Item, Table};
+use auth_table::Table;
+use table_defs::Item;
 use core::mem::replace_with;
 use event_record::MOST_EVENTS;
 use left_right::writer::Writer;

@@ -2,12 +2,10 @@
 //! authenticator (IEEE Std 802.1X-2004, 6.4). No call takes memory.
 #![tactic(auto)]
 
-mod change;
 mod leave;
 mod row;
 mod table;
 
-pub use change::Item;
 pub use leave::write_out;
 pub use switch_event::{Decision, Drop9};
 pub use table::{Table, absorb, can_absorb, decide, opening};

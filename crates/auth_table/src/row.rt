@@ -5,11 +5,12 @@ ghost use Rattle.switch_event.specs.Config.{has_valid_vlans};
 ghost use Rattle.table_defs.specs.Table.{done, fits, right_for, row_opened};
 ghost use Rattle.switch_event.specs.declared.decision.Decision.TheVariants.{Forward};
 ghost use Rattle.switch_defs.specs.Decide.{by_port};
-ghost use Rattle.auth_table.specs.Meaning.{item_of, ForwardsTagged};
+ghost use Rattle.table_defs.specs.Change.{item_of};
+ghost use Rattle.auth_table.specs.Meaning.{ForwardsTagged};
 ghost use Rattle.std.specs.List.{AllByRecursion};
 ghost use Rattle.auth_table.specs.Rows.{HasVlan, entries_of, first_held, right_given, stays};
 
-use crate::Item;
+use table_defs::Item;
 use arrayvec::ArrayVec;
 use machine_vars::Control;
 use std::marker::Model;

@@ -7,9 +7,10 @@ ghost use Rattle.switch_event.specs.Config.{is_valid};
 ghost use Rattle.eth_frame.specs.Frame.{fields};
 ghost use Rattle.switch_defs.specs.Decide.{checks, first_drop as first_drop_lem};
 ghost use Rattle.table_defs.specs.Table as model;
-ghost use Rattle.auth_table.specs.Meaning.{item_of, ForwardsTagged, row_at};
+ghost use Rattle.table_defs.specs.Change.{item_of};
+ghost use Rattle.auth_table.specs.Meaning.{ForwardsTagged, row_at};
 
-use crate::Item;
+use table_defs::Item;
 use crate::row::PortRow;
 use eth_frame::{EthDrop, Frame};
 use machine_vars::Control;

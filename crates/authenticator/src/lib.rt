@@ -10,11 +10,11 @@ ghost use Rattle.switch_defs.specs.Switch.{State, opening, most_sessions};
 ghost use Rattle.switch_defs.specs.Laws.{most_turns};
 ghost use Rattle.switch_defs.specs.Turn as model;
 ghost use Rattle.table_defs.specs.Table.{Tells};
-ghost use Rattle.auth_table.specs.Meaning.{item_of};
+ghost use Rattle.table_defs.specs.Change.{item_of};
 ghost use Rattle.authenticator.specs.Meaning.{IsEvent};
 
 use arrayvec::ArrayVec;
-use auth_table::Item;
+use table_defs::Item;
 use out_tray::Tray;
 pub use settings::copied_config;
 use std::alloc::{AllocError, Global};

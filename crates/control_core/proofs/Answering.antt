@@ -24,7 +24,7 @@ use Rattle.switch_defs.proofs.Lists.{in_found, in_map, of_each}
 use Rattle.switch_defs.proofs.Fitting.{SaysVlan, answer_vlan, native_vlan}
 use Rattle.switch_defs.proofs.Naming.{answers_name_sessions}
 use Rattle.switch_defs.proofs.Soundness.{answers_may_settle}
-use Rattle.auth_table.specs.declared.change.Item.{Item}
+use Rattle.table_defs.specs.declared.change.Item.{Item}
 use Rattle.host_sessions.specs.declared.sessions.Sessions.{Sessions}
 use Rattle.host_sessions.specs.Holds as sessions
 use Rattle.host_sessions.specs.Finds.{FindsAt, IsAt}

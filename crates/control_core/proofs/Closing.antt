@@ -7,7 +7,7 @@ use Rattle.switch_defs.specs.Sound.{confs}
 use Rattle.switch_defs.proofs.Lists.{of_each}
 use Rattle.table_defs.proofs.Told.{AreRestricted, HasConf}
 use Rattle.turn_defs.proofs.Walks.{Closings, ClosingGoes, after_closing, closings_begin, closings_end, closings_step, next_place}
-use Rattle.auth_table.specs.declared.change.Item.{Item}
+use Rattle.table_defs.specs.declared.change.Item.{Item}
 use Rattle.control_core.specs.declared.state.Core.{Core}
 use Rattle.control_core.specs.Stands.{Holds}
 use Rattle.control_core.specs.Does.{TellsOn}

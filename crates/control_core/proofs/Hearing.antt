@@ -30,8 +30,8 @@ use Rattle.switch_defs.proofs.Keeping.{confs_map}
 use Rattle.switch_defs.proofs.Hosts.{stays}
 use Rattle.table_defs.proofs.Told.{by_none}
 use Rattle.turn_defs.proofs.Parts.{tells_none}
-use Rattle.auth_table.specs.declared.change.Item.{Item}
-use Rattle.auth_table.specs.Meaning.{item_of}
+use Rattle.table_defs.specs.declared.change.Item.{Item}
+use Rattle.table_defs.specs.Change.{item_of}
 use Rattle.switch_ports.specs.Ports as ports
 use Rattle.host_sessions.specs.declared.sessions.Sessions.{Sessions}
 use Rattle.host_sessions.specs.Holds as sessions

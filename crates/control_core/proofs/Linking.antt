@@ -15,9 +15,9 @@ use Rattle.switch_defs.proofs.Lists.{each_in, in_found}
 use Rattle.switch_defs.proofs.Keeping.{confs_map}
 use Rattle.table_defs.specs.Table as table
 use Rattle.table_defs.proofs.Told.{AreConfigured, AreRestricted, HasConf, by_set_control, by_set_link, has_conf, restricted_sound, session_conf}
-use Rattle.auth_table.specs.declared.change.Item.{Item}
-use Rattle.auth_table.specs.declared.change.Item.TheVariants as now
-use Rattle.auth_table.specs.Meaning.{item_of}
+use Rattle.table_defs.specs.declared.change.Item.{Item}
+use Rattle.table_defs.specs.declared.change.Item.TheVariants as now
+use Rattle.table_defs.specs.Change.{item_of}
 use Rattle.turn_defs.proofs.Parts.{tells_one}
 use Rattle.control_core.specs.declared.state.Core.{Core}
 use Rattle.control_core.specs.Stands.{Holds}

@@ -1,6 +1,6 @@
 -- A second in which nothing falls due for a session.
 use Rattle.std.proofs.Common.{◌≡◌, ℕ, ◌∙◌, false, Option, Some, refl, sym, map, inl}
-use Rattle.auth_table.specs.Meaning.{item_of}
+use Rattle.table_defs.specs.Change.{item_of}
 use Rattle.switch_defs.specs.Switch.{Session, State, hosts}
 use Rattle.switch_defs.specs.Decide.{Right, authorised, right_by}
 use Rattle.switch_defs.specs.Sound.{AreApart, HasVlan}

@@ -14,8 +14,8 @@ use Rattle.switch_defs.specs.Switch.{State}
 use Rattle.switch_defs.specs.Dynamic.{act, judged_on, reply}
 use Rattle.switch_defs.specs.Turn.{do_request}
 use Rattle.switch_defs.proofs.Soundness.{sound_is_between}
-use Rattle.auth_table.specs.declared.change.Item.{Item}
-use Rattle.auth_table.specs.Meaning.{item_of}
+use Rattle.table_defs.specs.declared.change.Item.{Item}
+use Rattle.table_defs.specs.Change.{item_of}
 use Rattle.host_sessions.proofs.Turning.{sent_then}
 use Rattle.control_core.specs.declared.state.Core.{Core}
 use Rattle.control_core.specs.Stands.{Holds, Stands}

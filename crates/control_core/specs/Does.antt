@@ -7,8 +7,8 @@ use Rattle.out_tray.specs.Tray.{Things}
 use Rattle.typed_session.specs.Follows.{with_sent}
 use Rattle.switch_defs.specs.Switch.{Did, Host, Port, Session, State, Turned, port_of}
 use Rattle.turn_defs.specs.Parts as parts
-use Rattle.auth_table.specs.declared.change.Item.{Item}
-use Rattle.auth_table.specs.Meaning.{item_of}
+use Rattle.table_defs.specs.declared.change.Item.{Item}
+use Rattle.table_defs.specs.Change.{item_of}
 use Rattle.host_sessions.specs.Finds.{IsAt}
 use Rattle.control_core.specs.declared.state.Core.{Core}
 use Rattle.control_core.specs.Stands.{Holds}

@@ -3,8 +3,8 @@ use Rattle.std.specs.Prelude.{List, map, Option}
 use Rattle.switch_defs.specs.Switch.{Host}
 use Rattle.switch_defs.specs.Decide.{Right}
 use Rattle.turn_defs.specs.Parts as parts
-use Rattle.auth_table.specs.declared.change.Item.{Item}
-use Rattle.auth_table.specs.Meaning.{item_of}
+use Rattle.table_defs.specs.declared.change.Item.{Item}
+use Rattle.table_defs.specs.Change.{item_of}
 
 -- what it is authorised for is told where it has changed
 abbrev pub Notes : Host → (was is : Option Right) → (before after : List Item) → Type 0

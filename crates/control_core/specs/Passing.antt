@@ -9,7 +9,7 @@ use Rattle.switch_defs.specs.Laws.{IsBetween}
 use Rattle.switch_defs.proofs.Fitting.{AreVlans}
 use Rattle.table_defs.proofs.Told.{AreRestricted, HasConf}
 use Rattle.turn_defs.proofs.Walks.{is_over}
-use Rattle.auth_table.specs.declared.change.Item.{Item}
+use Rattle.table_defs.specs.declared.change.Item.{Item}
 use Rattle.control_core.specs.declared.state.Core.{Core}
 use Rattle.control_core.specs.Does.{Does}
 

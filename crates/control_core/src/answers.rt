@@ -15,7 +15,7 @@ ghost use Rattle.control_core.specs.Answering.{MayTell, told as told_lem};
 use crate::state::Core;
 use aaa_client::Taken;
 use arrayvec::ArrayVec;
-use auth_table::Item;
+use table_defs::Item;
 use out_tray::Tray;
 use server_words::said;
 use switch_event::Outcome;

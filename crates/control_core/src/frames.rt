@@ -10,14 +10,14 @@ ghost use Rattle.switch_defs.specs.Sound.{IsUp};
 ghost use Rattle.switch_defs.specs.Turn as model;
 ghost use Rattle.switch_defs.specs.Turn.{control_case, frame_case, known_case};
 ghost use Rattle.switch_defs.specs.Turn.{is_logoff as is_logoff_lem, is_start as is_start_lem};
-ghost use Rattle.auth_table.specs.declared.change.Item.{Item as Told};
+ghost use Rattle.table_defs.specs.declared.change.Item.{Item as Told};
 ghost use Rattle.control_core.specs.Stands.{MayTurn};
 ghost use Rattle.control_core.specs.Does.{Does, IsHere, IsKnown, Turns};
 ghost use Rattle.control_core.specs.Hearing.{MayBegin, MayHear};
 
 use crate::state::Core;
 use arrayvec::ArrayVec;
-use auth_table::Item;
+use table_defs::Item;
 use host_frames::{Heard, Said, read};
 use machine_vars::Control;
 use out_tray::Tray;

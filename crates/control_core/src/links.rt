@@ -8,14 +8,14 @@ ghost use Rattle.out_tray.specs.Tray.{spare};
 ghost use Rattle.switch_defs.specs.Switch.{Port, Session, State, on_port, port_of, turned};
 ghost use Rattle.switch_defs.specs.Turn as model;
 ghost use Rattle.turn_defs.proofs.Walks.{after_closing, next_place};
-ghost use Rattle.auth_table.specs.declared.change.Item.{Item as Told};
+ghost use Rattle.table_defs.specs.declared.change.Item.{Item as Told};
 ghost use Rattle.control_core.specs.Stands.{Holds, MayTurn};
 ghost use Rattle.control_core.specs.Does.{Does, TellsOn, Turns};
 ghost use Rattle.control_core.specs.Walked.{MayClose, MayEnd};
 
 use crate::state::Core;
 use arrayvec::ArrayVec;
-use auth_table::Item;
+use table_defs::Item;
 use eap_packet::identity_request;
 use machine_vars::{Control, Times};
 use out_tray::Tray;

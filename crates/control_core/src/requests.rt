@@ -17,7 +17,7 @@ ghost use Rattle.control_core.specs.Acts.{MayAct};
 use crate::roll::Roster;
 use crate::state::Core;
 use arrayvec::ArrayVec;
-use auth_table::Item;
+use table_defs::Item;
 use dynauth_server::{Action, Judged, client_place, judge, reply};
 use out_tray::{Sent, Tray};
 use radius_defs::Timeout;

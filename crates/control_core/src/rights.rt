@@ -15,7 +15,7 @@ ghost use Rattle.control_core.specs.Notes.{Notes};
 
 use crate::state::Core;
 use arrayvec::ArrayVec;
-use auth_table::Item;
+use table_defs::Item;
 use host_sessions::port_address;
 use switch_event::Config;
 use wire_core::Mac;

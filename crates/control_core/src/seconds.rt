@@ -16,7 +16,7 @@ ghost use Rattle.control_core.specs.Passing.{MayPass, PassesIdly};
 use crate::rights::note;
 use crate::state::Core;
 use arrayvec::ArrayVec;
-use auth_table::Item;
+use table_defs::Item;
 use out_tray::Tray;
 use switch_event::Outcome;
 

@@ -6,14 +6,14 @@ ghost use Rattle.switch_defs.specs.Switch.{State, opening, most_sessions};
 ghost use Rattle.switch_defs.specs.Laws.{most_turns};
 ghost use Rattle.switch_defs.specs.Turn as model;
 ghost use Rattle.table_defs.specs.Table.{Tells};
-ghost use Rattle.auth_table.specs.Meaning.{item_of};
+ghost use Rattle.table_defs.specs.Change.{item_of};
 ghost use Rattle.authenticator.specs.Meaning.{IsEvent};
 ghost use Rattle.control_core.specs.Stands.{MayTurn};
 ghost use Rattle.control_core.specs.Does.{Turns};
 
 use crate::copies::{copy_kept, opened_kept};
 use arrayvec::ArrayVec;
-use auth_table::Item;
+use table_defs::Item;
 use authenticator::{Authenticator, copied_config};
 use dup_cache::Kept;
 use host_sessions::Sessions;

@@ -7,8 +7,8 @@ use Rattle.switch_defs.specs.Switch.{State}
 use Rattle.switch_defs.specs.Laws.{most_turns}
 use Rattle.trace_defs.specs.Line.{Record}
 use Rattle.trace_defs.specs.Line.Record.{Control, Data}
-use Rattle.trace_record.specs.declared.TraceRecord.{TraceRecord}
-use Rattle.trace_record.specs.Entered.{entered_all}
+use Rattle.event_record.specs.declared.trace_record.TraceRecord.{TraceRecord}
+use Rattle.trace_defs.specs.Entered.{entered_all}
 use Rattle.history_defs.specs.Output.{controls_in, records_of}
 use Rattle.history_defs.proofs.OutputLemmas.{flat_more}
 use Rattle.history_defs.proofs.PlaceLemmas.{controls_in-append}

@@ -1,10 +1,10 @@
 //! Records are counted.
 ghost use Rattle.std.specs.Prelude.{◌≡◌, ◌+◌, length};
 ghost use Rattle.history_defs.specs.Output.{controls_in};
-ghost use Rattle.trace_record.specs.Entered.{entered_all};
+ghost use Rattle.trace_defs.specs.Entered.{entered_all};
 ghost use Rattle.day_load.specs.Summary.{frames_in};
 
-use trace_record::TraceRecord;
+use event_record::TraceRecord;
 
 /// How many control records and how many data records there are.
 #[derive(Clone, Copy)]

@@ -9,8 +9,8 @@ use Rattle.switch_defs.specs.Switch.{State}
 use Rattle.switch_defs.specs.Turn.{turn}
 use Rattle.switch_defs.proofs.Settings.{config_turn}
 use Rattle.trace_defs.specs.Line.{Record}
-use Rattle.trace_record.specs.declared.TraceRecord.{TraceRecord}
-use Rattle.trace_record.specs.Entered.{entered_all}
+use Rattle.event_record.specs.declared.trace_record.TraceRecord.{TraceRecord}
+use Rattle.trace_defs.specs.Entered.{entered_all}
 use Rattle.day_defs.specs.Day.{Act, Day, record_of, after_that, after_acts, with_record, recorded}
 use Rattle.day_defs.proofs.Going.{after_acts-append, recorded-append}
 use Rattle.day_maker.specs.declared.maker.DayMaker.{DayMaker}

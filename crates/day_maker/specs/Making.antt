@@ -4,8 +4,8 @@ use Rattle.switch_event.specs.Event.{Happening}
 use Rattle.switch_defs.specs.Switch.{State, most_sessions}
 use Rattle.switch_defs.specs.Turn.{turn}
 use Rattle.trace_defs.specs.Line.{Record}
-use Rattle.trace_record.specs.declared.TraceRecord.{TraceRecord}
-use Rattle.trace_record.specs.Entered.{entered_all}
+use Rattle.event_record.specs.declared.trace_record.TraceRecord.{TraceRecord}
+use Rattle.trace_defs.specs.Entered.{entered_all}
 use Rattle.day_defs.specs.Office.{settings}
 use Rattle.day_defs.specs.Day.{Act, Day, after_record, after_acts, recorded}
 use Rattle.day_maker.specs.declared.maker.DayMaker.{DayMaker}

@@ -14,13 +14,12 @@ use crate::accept::accept;
 use crate::frames::{data_frame, port_of_host, response_frame, start_frame};
 use crate::notes::{Note, blank_notes, hear_all};
 use arrayvec::ArrayVec;
-use auth_table::Item;
+use table_defs::Item;
 use authenticator::Authenticator;
-use event_record::{Octets, Record};
+use event_record::{Octets, Record, TraceRecord};
 use out_tray::Tray;
 use std::alloc::{AllocError, Global};
 use switch_event::Config;
-use trace_record::TraceRecord;
 
 // The records of a day come on the first lane.
 const LANE: u8 = 1;

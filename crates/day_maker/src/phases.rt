@@ -10,7 +10,7 @@ use crate::maker::DayMaker;
 use authenticator::Authenticator;
 use day_defs::{FRAMES_AN_HOUR, PORTS, Phase, SECONDS_A_FRAME};
 use std::alloc::{AllocError, Global};
-use trace_record::TraceRecord;
+use event_record::TraceRecord;
 
 impl<A: Authenticator + Drop> DayMaker<A> {
     /// Adds the records of a phase. There must be room for them in a history. `AllocError`: there is

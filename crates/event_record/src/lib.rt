@@ -1,11 +1,13 @@
-//! Control events that own their octets, alone and with the lane that they came on: plain data.
+//! Control events and records of a trace that own their octets: plain data.
 #![tactic(auto)]
 
 mod entry;
 mod octets;
 mod record;
+mod trace_record;
 
 pub use entry::Entry;
+pub use event_record::TraceRecord;
 pub use octets::Octets;
 pub use record::Record;
 

@@ -1,8 +1,8 @@
 -- A record at its place among the numbered records of a phase.
 use Rattle.std.proofs.Common.{◌≡◌, ℕ, zero, suc, ◌+◌, List, [], ◌∷◌, length, slice_get, Some, All, subst, refl, ap, ◌∙◌, arith}
 use Rattle.legal_defs.specs.Runs.{with_number, numbered}
-use Rattle.trace_record.specs.declared.TraceRecord.{TraceRecord}
-use Rattle.trace_record.specs.Entered.{entered, entered_all}
+use Rattle.event_record.specs.declared.trace_record.TraceRecord.{TraceRecord}
+use Rattle.trace_defs.specs.Entered.{entered, entered_all}
 
 pub placed_at : (rs : List TraceRecord) (n i : ℕ) (r : TraceRecord) → slice_get rs i ≡ Some r → slice_get (numbered n (entered_all rs)) i ≡ Some (with_number (n + i) (entered r))
 placed_at [] n i r e = absurd cc

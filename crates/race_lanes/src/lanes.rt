@@ -7,7 +7,7 @@ ghost use Rattle.authenticator.specs.Meaning.{IsEvent};
 ghost use Rattle.switch_book.specs.declared.open_book.Fixed.{Fixed};
 ghost use Rattle.trace_defs.specs.Output as output;
 ghost use Rattle.legal_defs.specs.Runs.{ControlRecord, Numbered, numbered, with_number};
-ghost use Rattle.trace_record.specs.Entered.{entered, entered_all};
+ghost use Rattle.trace_defs.specs.Entered.{entered, entered_all};
 ghost use Rattle.race_lanes.specs.Lanes.{Ran, Counted, LaneView, MayCome, IsFresh, IsSameLane, Takes, Misses, Done};
 
 use crate::records::{record_at, running_lane};
@@ -21,7 +21,7 @@ use std::thread;
 use std::thread::Threads;
 use switch_book::{Answer, BookLock, Booked, JournalErr, LaneSeat, OpenBook};
 use switch_event::Event;
-use trace_record::TraceRecord;
+use event_record::TraceRecord;
 
 /// What a lane has beside its seat, from phase to phase: its tray, and what it printed in the last
 /// phase.

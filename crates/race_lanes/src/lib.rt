@@ -13,4 +13,4 @@ mod records;
 mod workers;
 
 pub use race::Race;
-pub use trace_record::TraceRecord;
+pub use event_record::TraceRecord;

@@ -3,7 +3,7 @@ ghost use Rattle.std.specs.Prelude.{◌≡◌, ◌+◌, ◌<◌, ◌≤◌, ◌�
 ghost use Rattle.legal_defs.specs.Runs.{numbered};
 ghost use Rattle.legal_defs.specs.Blocks.{Shown, Line, shown_in, text_of, forwarded_in};
 ghost use Rattle.block_list.specs.Marks.{one_if};
-ghost use Rattle.trace_record.specs.Entered.{entered_all};
+ghost use Rattle.trace_defs.specs.Entered.{entered_all};
 ghost use Rattle.race_lanes.specs.declared.lanes.LaneOut.{LaneOut};
 ghost use Rattle.race_lanes.specs.declared.workers.WorkerJob.{WorkerJob};
 ghost use Rattle.race_lanes.specs.Lines.{AreWhole, Walked, Merged};
@@ -13,7 +13,7 @@ use crate::records::{record_at, running_lane, serving_worker};
 use crate::workers::WorkerJob;
 use block_list::Block;
 use std::alloc::{AllocError, Global};
-use trace_record::TraceRecord;
+use event_record::TraceRecord;
 
 // What a lane printed next.
 fn next_said<'a>(outs: &'a [LaneOut], next: &mut Vec<usize>, lane: usize) -> Block<'a>

@@ -9,7 +9,7 @@ ghost use Rattle.switch_defs.specs.Switch.{most_sessions};
 ghost use Rattle.switch_book.specs.declared.open_book.Fixed.{Fixed};
 ghost use Rattle.switch_book.specs.Locked.{based};
 ghost use Rattle.legal_defs.specs.Runs.{numbered, controls_in};
-ghost use Rattle.trace_record.specs.Entered.{entered_all};
+ghost use Rattle.trace_defs.specs.Entered.{entered_all};
 ghost use Rattle.race_lanes.specs.declared.workers.WorkerJob.{WorkerJob};
 ghost use Rattle.race_lanes.specs.InPhase.{PhaseOk};
 ghost use Rattle.race_lanes.specs.Lanes.{LaneView, MayCome, IsFresh, Done, turned, IsBlank, seat_view, seat_in};
@@ -23,7 +23,7 @@ use std::alloc::Global;
 use std::sync::Wait;
 use std::thread::{Threads, join_mut};
 use switch_book::{Book, BookLock, Booked, LaneSeat, OpenBook};
-use trace_record::TraceRecord;
+use event_record::TraceRecord;
 
 // Memory for the seats and jobs of a phase, reserved before the book is locked.
 struct Room<B: Booked> {

@@ -12,7 +12,7 @@ ghost use Rattle.table_defs.specs.Table.{opening_table};
 ghost use Rattle.legal_defs.specs.Runs.{numbered, controls_in};
 ghost use Rattle.legal_defs.specs.Blocks.{Line, text_of, forwarded_in};
 ghost use Rattle.legal_defs.specs.Legal.{LegalBy, IsBegun};
-ghost use Rattle.trace_record.specs.Entered.{entered_all};
+ghost use Rattle.trace_defs.specs.Entered.{entered_all};
 ghost use Rattle.race_lanes.specs.Lanes.{MayCome};
 ghost use Rattle.race_lanes.specs.Workers.{IsFor, seen_by};
 ghost use Rattle.race_lanes.specs.Lines.{PhaseLines};
@@ -34,7 +34,7 @@ use std::sync::Wait;
 use std::thread::Threads;
 use switch_book::Book;
 use switch_event::Config;
-use trace_record::TraceRecord;
+use event_record::TraceRecord;
 
 // How many sessions a tray has room for: those of 16 hosts on each of 60 ports.
 const SESSIONS: usize = 960;

@@ -1,9 +1,9 @@
 // The records of a phase, and where each runs.
 ghost use Rattle.std.specs.Prelude.{◌≡◌, ◌<◌, ◌≤◌, ◌+◌, ℕ, length, slice_get, Some};
 ghost use Rattle.legal_defs.specs.Runs.{numbered, with_number, runs_on, served_by};
-ghost use Rattle.trace_record.specs.Entered.{entered, entered_all};
+ghost use Rattle.trace_defs.specs.Entered.{entered, entered_all};
 
-use trace_record::TraceRecord;
+use event_record::TraceRecord;
 
 fn entry_at(records: &[TraceRecord], i: usize) -> &TraceRecord
     requires { i < length records.now }

@@ -3,7 +3,7 @@ ghost use Rattle.std.specs.Prelude.{◌≡◌, ◌<◌, ◌≤◌, ◌+◌, ◌^
 ghost use mathlib.Core.List.{IsPrefix};
 ghost use Rattle.table_defs.specs.Table.{Change};
 ghost use Rattle.legal_defs.specs.Runs.{DataRecord, Numbered, numbered, with_number};
-ghost use Rattle.trace_record.specs.Entered.{entered, entered_all};
+ghost use Rattle.trace_defs.specs.Entered.{entered, entered_all};
 ghost use Rattle.race_lanes.specs.Shares.{datas_of};
 ghost use Rattle.race_lanes.specs.Workers.{Heard, Hears, Worked};
 
@@ -15,7 +15,7 @@ use outside_core::{Gate, Point, Who};
 use std::alloc::{AllocError, Global};
 use std::thread;
 use std::thread::Threads;
-use trace_record::TraceRecord;
+use event_record::TraceRecord;
 
 /// A worker, and what it printed in the last phase.
 #[derive(Drop)]

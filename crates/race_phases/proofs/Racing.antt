@@ -6,8 +6,8 @@ use Rattle.switch_event.specs.Config.{Config}
 use Rattle.event_record.specs.declared.TheConstants.{MOST_EVENTS}
 use Rattle.trace_defs.specs.Line.{Record}
 use Rattle.trace_defs.specs.Line.Record.{Control, Data}
-use Rattle.trace_record.specs.declared.TraceRecord.{TraceRecord}
-use Rattle.trace_record.specs.Entered.{entered, entered_all}
+use Rattle.event_record.specs.declared.trace_record.TraceRecord.{TraceRecord}
+use Rattle.trace_defs.specs.Entered.{entered, entered_all}
 use Rattle.history_defs.specs.Output.{controls_in, records_of}
 use Rattle.history_defs.proofs.PlaceLemmas.{controls_in-append}
 use Rattle.history_defs.proofs.OutputLemmas.{flat_more}

@@ -15,7 +15,7 @@ use std::alloc::{AllocError, Global};
 use std::sync::Wait;
 use std::thread::Threads;
 use switch_event::Config;
-use trace_record::TraceRecord;
+use event_record::TraceRecord;
 
 impl InParallel {
     /// One that was not opened yet.

@@ -10,8 +10,8 @@ use Rattle.trace_defs.specs.Line.Record.{Control, Data}
 use Rattle.history_defs.specs.Output.{IsPlain, Place, blocks, controls_in, first_place, next_place, place_after, plain, records_of}
 use Rattle.history_defs.proofs.OutputLemmas.{plain-more, place_after-more}
 use Rattle.history_defs.proofs.PlaceLemmas.{place_config, place_number, place_serial}
-use Rattle.trace_record.specs.declared.TraceRecord.{TraceRecord}
-use Rattle.trace_record.specs.Entered.{entered_all}
+use Rattle.event_record.specs.declared.trace_record.TraceRecord.{TraceRecord}
+use Rattle.trace_defs.specs.Entered.{entered_all}
 use Rattle.sequential.specs.declared.sequential.Sequential.{Sequential}
 use Rattle.sequential.specs.Records.{Stands, PrintsAll, MayRunAt}
 use Rattle.race_run.specs.declared.one_thread.OneThread.{OneThread}

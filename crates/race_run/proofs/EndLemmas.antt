@@ -11,7 +11,7 @@ use Rattle.trace_defs.specs.Reading.{HasRead}
 use Rattle.trace_defs.specs.Trace.{Progress, read_lines, progress_of, reason_of, start, after_line}
 use Rattle.trace_defs.specs.Trace.Stop.{Refused as IsRefused, Full as IsFull}
 use Rattle.trace_defs.proofs.TraceLemmas.{HasRead-none, HasRead-feed, trace_of-long, trace_of-end, read_lines-next, read_lines-stop}
-use Rattle.trace_record.specs.Entered.{entered_all}
+use Rattle.trace_defs.specs.Entered.{entered_all}
 use Rattle.race_run.specs.declared.run.Run.{Run}
 use Rattle.race_run.specs.declared.ending.Ending.{Ending}
 use Rattle.race_run.specs.declared.ending.Ending.TheVariants.{Done, NoMemory, Refused, ReadFault, WriteFault, Full, TooLong}

@@ -12,9 +12,9 @@ use Rattle.history_defs.proofs.PlaceLemmas.{controls_in-append}
 use Rattle.event_record.specs.declared.record.Record.{Record as What}
 use Rattle.event_record.specs.Record.{event_of}
 use Rattle.authenticator.specs.Meaning.{IsEvent}
-use Rattle.trace_record.specs.declared.TraceRecord.{TraceRecord}
-use Rattle.trace_record.specs.declared.TraceRecord.TheVariants.{Control, Data}
-use Rattle.trace_record.specs.Entered.{entered, entered_all}
+use Rattle.event_record.specs.declared.trace_record.TraceRecord.{TraceRecord}
+use Rattle.event_record.specs.declared.trace_record.TraceRecord.TheVariants.{Control, Data}
+use Rattle.trace_defs.specs.Entered.{entered, entered_all}
 use Rattle.race_run.specs.declared.run.Run.{Run}
 use Rattle.race_run.specs.Runs.{Phased, MayCome, MayRun}
 use Rattle.race_run.specs.Run.{IsReady, IsSound, IsStart, Joins}

@@ -13,9 +13,9 @@ use Rattle.trace_defs.specs.Line.Record.{Control as ControlEntry, Data as DataEn
 use Rattle.trace_defs.specs.Trace.{Progress, Stop, after_line, add_line, add_record}
 use Rattle.trace_defs.specs.Trace.Stop.{Full as IsFull}
 use Rattle.trace_lang.specs.Meaning.{AreKept}
-use Rattle.trace_record.specs.declared.TraceRecord.{TraceRecord}
-use Rattle.trace_record.specs.declared.TraceRecord.TheVariants.{Data}
-use Rattle.trace_record.specs.Entered.{entered, entered_all}
+use Rattle.event_record.specs.declared.trace_record.TraceRecord.{TraceRecord}
+use Rattle.event_record.specs.declared.trace_record.TraceRecord.TheVariants.{Data}
+use Rattle.trace_defs.specs.Entered.{entered, entered_all}
 use Rattle.race_run.specs.declared.run.Run.{Run}
 use Rattle.race_run.specs.declared.ending.Ending.{Ending}
 use Rattle.race_run.specs.declared.ending.Ending.TheVariants.{Done, NoMemory, Refused, ReadFault, WriteFault, Full, TooLong}

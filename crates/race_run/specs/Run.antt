@@ -12,8 +12,8 @@ use Rattle.trace_defs.specs.Trace.{Progress, Stop, trace_of}
 use Rattle.trace_defs.specs.Trace.Reading.{Going}
 use Rattle.trace_defs.specs.Trace.Stop.{Refused as IsRefused, Full as IsFull}
 use Rattle.history_defs.specs.Output.{controls_in, records_of}
-use Rattle.trace_record.specs.declared.TraceRecord.{TraceRecord}
-use Rattle.trace_record.specs.Entered.{entered_all}
+use Rattle.event_record.specs.declared.trace_record.TraceRecord.{TraceRecord}
+use Rattle.trace_defs.specs.Entered.{entered_all}
 use Rattle.race_run.specs.declared.run.Run.{Run}
 use Rattle.race_run.specs.declared.ending.Ending.{Ending}
 use Rattle.race_run.specs.declared.ending.Ending.TheVariants.{NoMemory, Refused, WriteFault, Full}

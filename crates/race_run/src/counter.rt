@@ -1,14 +1,14 @@
 // What runs no record, and counts them.
 ghost use Rattle.std.specs.Prelude.{◌≡◌, ◌+◌, ◌<◌, ◌^◌, length};
 ghost use Rattle.history_defs.specs.Output.{controls_in};
-ghost use Rattle.trace_record.specs.Entered.{entered_all};
+ghost use Rattle.trace_defs.specs.Entered.{entered_all};
 
 use crate::runs::RunsPhases;
 use std::alloc::{AllocError, Global};
 use std::sync::Wait;
 use std::thread::Threads;
 use switch_event::Config;
-use trace_record::TraceRecord;
+use event_record::TraceRecord;
 
 /// Counts the records of phases, and gives no text for them.
 #[derive(Clone, Copy, Debug, Default, PartialEq, Eq)]

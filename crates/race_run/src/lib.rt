@@ -21,7 +21,7 @@ pub use refusal::{refusal_words, say_ending, status_words};
 pub use replay::replay_within;
 pub use run::run_within;
 pub use runs::RunsPhases;
-pub use trace_record::TraceRecord;
+pub use event_record::TraceRecord;
 
 #[cfg(test)]
 mod tests;

@@ -6,7 +6,7 @@ use std::alloc::{AllocError, Global};
 use std::sync::Wait;
 use std::thread::Threads;
 use switch_event::Config;
-use trace_record::TraceRecord;
+use event_record::TraceRecord;
 
 /// Runs phases on the calling thread. Their text is the blocks of the records in order, with lane 1
 /// and the serials and fronts of record order.

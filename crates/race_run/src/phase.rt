@@ -3,7 +3,7 @@ ghost use Rattle.std.specs.Prelude.{◌≡◌, ◌⊎◌, ◌≤◌, ◌<◌, �
 ghost use Rattle.switch_event.specs.Config.{is_valid};
 ghost use Rattle.trace_defs.specs.Line.Line.{Begin as IsBegin, Sync as IsSyncLine};
 ghost use Rattle.trace_defs.specs.Trace.{add_line};
-ghost use Rattle.trace_record.specs.declared.TraceRecord.TheVariants.{Control, Data};
+ghost use Rattle.event_record.specs.declared.trace_record.TraceRecord.TheVariants.{Control, Data};
 ghost use Rattle.race_run.specs.declared.ending.Ending.TheVariants.{NoMemory, Full as IsFull};
 ghost use Rattle.race_run.specs.Ending.{HasEndingCause};
 ghost use Rattle.race_run.specs.Run.{IsSound, Steps, Halts, Joins, ended, given_by};
@@ -17,7 +17,7 @@ use std::alloc::Global;
 use std::sync::Wait;
 use std::thread::Threads;
 use trace_lang::{Octets, Record};
-use trace_record::TraceRecord;
+use event_record::TraceRecord;
 
 impl Run {
     /// Puts a control record into the open phase.

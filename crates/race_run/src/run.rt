@@ -18,7 +18,7 @@ use std::sync::Wait;
 use std::thread::Threads;
 use trace_defs::MISSING;
 use trace_lang::{Config, Line, LineErr, Lines, read_line};
-use trace_record::TraceRecord;
+use event_record::TraceRecord;
 
 // A line is asked for in pieces of at most so many octets.
 const PIECE: usize = 256;

@@ -3,14 +3,14 @@ ghost use Rattle.std.specs.Prelude.{◌≡◌, ℕ, List, [], true, IfOk, OnOk};
 ghost use Rattle.std.specs.Thread.{IsSync};
 ghost use Rattle.switch_event.specs.Config.{Config as Settings, is_valid};
 ghost use Rattle.trace_defs.specs.Line.{Record};
-ghost use Rattle.trace_record.specs.Entered.{entered_all};
+ghost use Rattle.trace_defs.specs.Entered.{entered_all};
 ghost use Rattle.race_run.specs.Runs.{MayRun, RanPhase};
 
 use std::alloc::{AllocError, Global};
 use std::sync::Wait;
 use std::thread::Threads;
 use trace_lang::Config;
-use trace_record::TraceRecord;
+use event_record::TraceRecord;
 
 /// Runs one phase of records after another, and gives a text for each. It may start threads, and
 /// has joined them when a call returns.

@@ -2,9 +2,9 @@
 use Rattle.std.proofs.Common.{ℕ, zero, suc, ◌≤◌, List, [], ◌∷◌, All, length, arith}
 use Rattle.switch_event.specs.Config.{Config}
 use Rattle.event_record.specs.declared.record.Record.TheVariants.{Second, Frame, Radius, Dynamic, Link, SetControl}
-use Rattle.trace_record.specs.declared.TraceRecord.{TraceRecord}
-use Rattle.trace_record.specs.declared.TraceRecord.TheVariants.{Control, Data}
-use Rattle.trace_record.specs.Entered.{entered_all}
+use Rattle.event_record.specs.declared.trace_record.TraceRecord.{TraceRecord}
+use Rattle.event_record.specs.declared.trace_record.TraceRecord.TheVariants.{Control, Data}
+use Rattle.trace_defs.specs.Entered.{entered_all}
 use Rattle.legal_defs.specs.Runs.{numbered, controls_in}
 use Rattle.race_lanes.specs.Lanes.{MayCome}
 use Rattle.race_tests.specs.Simple.{AreSimple}

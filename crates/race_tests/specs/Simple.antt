@@ -1,8 +1,8 @@
 -- Records that may come under any settings.
 use Rattle.std.specs.Prelude.{List, [], ◌∷◌}
 use Rattle.event_record.specs.declared.record.Record.TheVariants.{Second, Frame, Radius, Dynamic, Link, SetControl}
-use Rattle.trace_record.specs.declared.TraceRecord.{TraceRecord}
-use Rattle.trace_record.specs.declared.TraceRecord.TheVariants.{Control, Data}
+use Rattle.event_record.specs.declared.trace_record.TraceRecord.{TraceRecord}
+use Rattle.event_record.specs.declared.trace_record.TraceRecord.TheVariants.{Control, Data}
 
 -- seconds and data frames alone
 abbrev pub AreSimple : List TraceRecord → Type 0

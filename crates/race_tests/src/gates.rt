@@ -3,7 +3,7 @@ ghost use Rattle.std.specs.Prelude.{◌≤◌, ◌∷◌, [], length, IfOk};
 ghost use Rattle.race_tests.specs.Simple.{AreSimple};
 
 use control_core::Core;
-use event_record::{Octets, Record};
+use event_record::{Octets, Record, TraceRecord};
 use machine_vars::Control;
 use outside_core::{Gate, Point, Who};
 use race_lanes::Race;
@@ -13,7 +13,6 @@ use std::sync::atomic::{AtomicU64, Ordering};
 use std::test::Fail;
 use std::thread::Threads;
 use switch_event::{Config, PortConf};
-use trace_record::TraceRecord;
 
 // How often a thread at a gate looks for another: for a second or more, so that the other comes to
 // run where the machine has other work to do.

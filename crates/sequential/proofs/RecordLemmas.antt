@@ -11,15 +11,15 @@ use Rattle.switch_event.specs.declared.decision.Decision.{Decision}
 use Rattle.table_defs.specs.Table.{Table, Mirrors, Tells, decide_table, opening_table, all_absorbed}
 use Rattle.table_defs.proofs.Mirror.{enough, kept}
 use Rattle.table_defs.proofs.Telling.{begun}
-use Rattle.auth_table.specs.Meaning.{item_of}
-use Rattle.auth_table.specs.declared.change.Item.{Item}
+use Rattle.table_defs.specs.Change.{item_of}
+use Rattle.table_defs.specs.declared.change.Item.{Item}
 use Rattle.trace_defs.specs.Line.{Record}
 use Rattle.trace_defs.specs.Line.Record.{Control}
 use Rattle.trace_defs.specs.Output.{control_block}
 use Rattle.history_defs.specs.Output.{Place, block, blocks, first_place, next_place, place_after}
 use Rattle.history_defs.proofs.OutputLemmas.{blocks-append, place_after-append}
-use Rattle.trace_record.specs.declared.TraceRecord.{TraceRecord}
-use Rattle.trace_record.specs.Entered.{entered, entered_all}
+use Rattle.event_record.specs.declared.trace_record.TraceRecord.{TraceRecord}
+use Rattle.trace_defs.specs.Entered.{entered, entered_all}
 use Rattle.sequential.specs.declared.sequential.Sequential.{Sequential}
 use Rattle.sequential.specs.Records.{Stands, Turned, Prints, PrintsAll, MayRunOne, MayRunAt}
 

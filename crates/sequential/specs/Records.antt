@@ -10,8 +10,8 @@ use Rattle.authenticator.specs.Meaning.{IsEvent}
 use Rattle.trace_defs.specs.Line.{Record}
 use Rattle.trace_defs.specs.Line.Record.{Control, Data}
 use Rattle.history_defs.specs.Output.{Place, block, blocks, next_place, place_after}
-use Rattle.trace_record.specs.declared.TraceRecord.{TraceRecord}
-use Rattle.trace_record.specs.Entered.{entered_all}
+use Rattle.event_record.specs.declared.trace_record.TraceRecord.{TraceRecord}
+use Rattle.trace_defs.specs.Entered.{entered_all}
 use Rattle.sequential.specs.declared.sequential.Sequential.{Sequential}
 
 -- the output has come as far as this place: the authenticator stands for its state after as many

@@ -5,18 +5,17 @@ ghost use Rattle.event_record.specs.declared.TheConstants.{MOST_EVENTS};
 ghost use Rattle.event_record.specs.Record.{event_of};
 ghost use Rattle.history_defs.specs.Output.{Place};
 ghost use Rattle.authenticator.specs.Meaning.{IsEvent};
-ghost use Rattle.trace_record.specs.Entered.{entered, entered_all};
+ghost use Rattle.trace_defs.specs.Entered.{entered, entered_all};
 ghost use Rattle.sequential.specs.Records.{Stands, Turned, Prints, Sends, PrintsAll, PrintsSome, MayRunOne, MayRunAt};
 
 use crate::sequential::Sequential;
 use arrayvec::ArrayVec;
 use auth_table::{absorb, decide, write_out};
 use authenticator::Authenticator;
-use event_record::Record;
+use event_record::{Record, TraceRecord};
 use std::alloc::AllocError;
 use switch_event::{Decided, Outcome};
 use trace_print::{print_control, print_data};
-use trace_record::TraceRecord;
 
 // A run on one thread has one lane.
 const LANE: u8 = 1;

@@ -5,7 +5,8 @@ ghost use Rattle.history_defs.specs.Output.{Place, first_place};
 ghost use Rattle.sequential.specs.Records.{Stands};
 
 use arrayvec::ArrayVec;
-use auth_table::{Item, Table, opening};
+use auth_table::{Table, opening};
+use table_defs::Item;
 use authenticator::Authenticator;
 use out_tray::Tray;
 use std::alloc::{AllocError, Global};

@@ -14,7 +14,8 @@ ghost use Rattle.switch_book.specs.Book.{opened, IsTold, Refuses, RefusesFinish,
 use arrayvec::ArrayVec;
 use auth_journal::{Journal, JournalErr};
 use auth_publish::{Publisher, Receipt, open};
-use auth_table::{Item, opening};
+use auth_table::opening;
+use table_defs::Item;
 use authenticator::Authenticator;
 use forward_worker::Worker;
 use out_tray::Tray;

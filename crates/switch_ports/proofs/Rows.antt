@@ -1,8 +1,8 @@
 -- All ports, one after another.
 use Rattle.std.proofs.Common.{◌≡◌, ℕ, zero, suc, ◌+◌, ◌<◌, Bool, true, false, cond, List, [], ◌∷◌, ◌++◌, length, map, take, drop, get_or, set, refl, ap, sym, ◌∙◌, arith, append_assoc}
 use Rattle.std.proofs.lemmas.List.{append-nil, map-append}
-use Rattle.auth_table.specs.declared.change.Item.{Item as ItemNow}
-use Rattle.auth_table.specs.Meaning.{item_of}
+use Rattle.table_defs.specs.declared.change.Item.{Item as ItemNow}
+use Rattle.table_defs.specs.Change.{item_of}
 use Rattle.std.proofs.lemmas.List.Edits.{map_over_more}
 use Rattle.std.proofs.Math.Seq.{take-append_seam}
 use Rattle.switch_event.specs.declared.config.PortConf.{PortConf}

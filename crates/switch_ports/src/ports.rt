@@ -7,7 +7,7 @@ ghost use Rattle.machine_defs.specs.Live.{InRange, Greeting, set, fresh};
 ghost use Rattle.wire_defs.specs.Ethernet.{pae_group};
 ghost use Rattle.out_tray.specs.Tray.{spare};
 ghost use Rattle.switch_event.specs.Config.{are_ports, is_valid};
-ghost use Rattle.auth_table.specs.Meaning.{item_of};
+ghost use Rattle.table_defs.specs.Change.{item_of};
 ghost use Rattle.switch_defs.specs.Switch.{Port, Session, is_port, on_port, opened_port};
 ghost use Rattle.switch_defs.specs.Session.{armed, unguested};
 ghost use Rattle.switch_defs.specs.Turn.{guest_second, with_control, with_link};
@@ -18,7 +18,7 @@ ghost use Rattle.switch_ports.specs.Index.{place_of};
 
 use crate::port::PortState;
 use arrayvec::ArrayVec;
-use auth_table::Item;
+use table_defs::Item;
 use machine_vars::{Control, Times};
 use out_tray::Tray;
 use std::alloc::{AllocError, Global};

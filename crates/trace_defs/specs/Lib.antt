@@ -7,3 +7,4 @@ pub mod Alike
 pub mod Trace
 pub mod Reading
 pub mod Output
+pub mod Entered

@@ -3,7 +3,7 @@ use Rattle.legal_defs.specs.Runs.{ControlRecord, DataRecord, Numbered, numbered,
 use Rattle.legal_defs.specs.Runs.Numbered.{Control, Data}
 use Rattle.legal_defs.specs.Blocks.Line.{Reply, Decision}
 use Rattle.event_record.specs.Record.{event_of}
-use Rattle.trace_record.specs.Entered.{entered, entered_all}
+use Rattle.trace_defs.specs.Entered.{entered, entered_all}
 use Rattle.race_lanes.specs.Lines.{Walked}
 use Rattle.race_lanes.proofs.Speaking.{take_more, here}
 use Rattle.race_lanes.proofs.Hearing.{own}

@@ -1,7 +1,7 @@
 use Rattle.std.proofs.Common.{rules, ◌≡◌, ◌++◌, ◌∷◌, [], List, length, replicate, ap, sym, refl, ◌∙◌, subst, append_assoc, append-nil, arith}
 use Rattle.legal_defs.specs.Runs.{Numbered, numbered}
 use Rattle.legal_defs.specs.Blocks.{shown_in, text_of}
-use Rattle.trace_record.specs.Entered.{entered_all}
+use Rattle.trace_defs.specs.Entered.{entered_all}
 use Rattle.race_lanes.specs.Lines.{Walked}
 use Rattle.race_lanes.proofs.Placing.{as_many}
 use Rattle.race_lanes.proofs.Speaking.{take_all}

@@ -1,7 +1,7 @@
 use Rattle.std.proofs.Common.{◌≡◌, ◌≤◌, ◌++◌, ℕ, List, take}
 use Rattle.legal_defs.specs.Runs.{numbered}
 use Rattle.legal_defs.specs.Blocks.{Line, text_of, forwarded_in}
-use Rattle.trace_record.specs.Entered.{entered_all}
+use Rattle.trace_defs.specs.Entered.{entered_all}
 use Rattle.race_lanes.specs.Lines.{Walked}
 use Rattle.race_lanes.proofs.order.merge.Given as goal
 

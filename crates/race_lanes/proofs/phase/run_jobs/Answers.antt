@@ -1,7 +1,7 @@
 use Rattle.std.proofs.Common.{rules, ◌≡◌, List, length, slice_index_or, sym, ap, subst, arith}
 use Rattle.book_lock.specs.Sums.{Each}
 use Rattle.legal_defs.specs.Runs.{numbered}
-use Rattle.trace_record.specs.Entered.{entered_all}
+use Rattle.trace_defs.specs.Entered.{entered_all}
 use Rattle.switch_book.specs.declared.open_book.Fixed.{Fixed}
 use Rattle.race_lanes.specs.Lanes.{LaneView, IsFresh, Done}
 use Rattle.race_lanes.proofs.Turning.{each_all, written_back}

@@ -5,7 +5,7 @@ use Rattle.switch_defs.specs.Switch.{most_sessions}
 use Rattle.switch_book.specs.declared.open_book.Fixed.{Fixed}
 use Rattle.switch_book.specs.Locked.{based}
 use Rattle.legal_defs.specs.Runs.{Numbered, numbered}
-use Rattle.trace_record.specs.Entered.{entered_all}
+use Rattle.trace_defs.specs.Entered.{entered_all}
 use Rattle.race_lanes.specs.InPhase.{PhaseOk}
 use Rattle.race_lanes.specs.Lanes.{LaneView, SeatView, turned, seat_view, seat_in}
 use Rattle.race_lanes.proofs.Turning.{turned_map, each_map, all_each, all_unmap, total_map, gathered_map, map_map, top_map, length_map, length_turned}

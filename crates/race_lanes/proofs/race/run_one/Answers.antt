@@ -5,7 +5,7 @@ use Rattle.table_defs.specs.Table.{Change}
 use Rattle.auth_publish.specs.Changes.{front_of}
 use Rattle.switch_book.specs.Book.{Book}
 use Rattle.legal_defs.specs.Runs.{Numbered, numbered}
-use Rattle.trace_record.specs.Entered.{entered_all}
+use Rattle.trace_defs.specs.Entered.{entered_all}
 use Rattle.race_lanes.specs.declared.lanes.LaneOut.{LaneOut}
 use Rattle.race_lanes.specs.Workers.{seen_by}
 use Rattle.race_lanes.specs.Lines.{AreWhole, Merged, PhaseLines}

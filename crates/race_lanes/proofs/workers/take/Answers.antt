@@ -1,7 +1,7 @@
 use Rattle.std.proofs.Common.{rules, tests, ◌≡◌, ◌==◌, true, false, ap, sym, refl}
 use Rattle.legal_defs.specs.Runs.{DataRecord, served_by, with_number}
 use Rattle.legal_defs.specs.Runs.Numbered.{Data}
-use Rattle.trace_record.specs.Entered.{entered}
+use Rattle.trace_defs.specs.Entered.{entered}
 use Rattle.race_lanes.proofs.Hearing.{hears_same, hears_next, not_data, another, own}
 use Rattle.race_lanes.proofs.workers.take.Goals as goal
 

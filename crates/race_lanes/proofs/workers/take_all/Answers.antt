@@ -2,7 +2,7 @@ use Rattle.std.proofs.Common.{rules, refl, ◌≡◌, ◌+◌, ◌∷◌, ◌++�
 use Rattle.table_defs.specs.Table.{Table}
 use Rattle.forward_worker.proofs.Closing.{prefix_trans}
 use Rattle.legal_defs.specs.Runs.{Numbered, numbered, with_number}
-use Rattle.trace_record.specs.Entered.{entered, entered_all}
+use Rattle.trace_defs.specs.Entered.{entered, entered_all}
 use Rattle.race_lanes.specs.Shares.{datas_of}
 use Rattle.race_lanes.specs.Workers.{Hears}
 use Rattle.race_lanes.proofs.Placing.{as_many}

@@ -1,7 +1,7 @@
 use Rattle.std.proofs.Common.{◌≡◌, take}
 use mathlib.Core.List.{IsPrefix}
 use Rattle.legal_defs.specs.Runs.{numbered}
-use Rattle.trace_record.specs.Entered.{entered_all}
+use Rattle.trace_defs.specs.Entered.{entered_all}
 use Rattle.race_lanes.specs.Shares.{datas_of}
 use Rattle.race_lanes.specs.Workers.{Hears}
 use Rattle.race_lanes.proofs.workers.take_all.Given as goal

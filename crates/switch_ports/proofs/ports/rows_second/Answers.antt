@@ -1,12 +1,12 @@
 -- One port more has its second.
 use Rattle.std.proofs.Common.{◌≡◌, ◌<◌, ℕ, List, ap, sym, map, length, get_or, true, arith, ◌∙◌}
-use Rattle.auth_table.specs.Meaning.{item_of}
+use Rattle.table_defs.specs.Change.{item_of}
 use Rattle.switch_defs.specs.Switch.{Port}
 use Rattle.switch_defs.specs.Turn.{guest_second}
 use Rattle.arrayvec.specs.ArrayVec.{ArrayVec}
 use Rattle.switch_event.specs.declared.config.PortConf.{PortConf}
-use Rattle.auth_table.specs.declared.change.Item.{Item as ItemNow}
-use Rattle.auth_table.specs.declared.change.Item.TheVariants.{Guest}
+use Rattle.table_defs.specs.declared.change.Item.{Item as ItemNow}
+use Rattle.table_defs.specs.declared.change.Item.TheVariants.{Guest}
 use Rattle.table_defs.specs.Table as table
 use Rattle.table_defs.specs.Table.{Item}
 use Rattle.table_defs.proofs.Told.{opens}

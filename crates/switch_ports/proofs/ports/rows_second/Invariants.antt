@@ -1,6 +1,6 @@
 -- For the ports before this one the second is done, with an item for each that lets guests in.
 use Rattle.std.proofs.Common.{◌≡◌, ◌+◌, ◌≤◌, ◌++◌, map, take, drop, length}
-use Rattle.auth_table.specs.Meaning.{item_of}
+use Rattle.table_defs.specs.Change.{item_of}
 use Rattle.switch_defs.specs.Turn.{guest_second}
 use Rattle.table_defs.proofs.Told.{opened_guests}
 use Rattle.switch_ports.proofs.ports.rows_second.Given as goal

@@ -2,7 +2,7 @@
 use Rattle.std.proofs.Common.{◌∙◌, map, sym}
 use Rattle.host_session.specs.Sits.{right_in}
 use Rattle.switch_defs.specs.Decide.{authorised}
-use Rattle.auth_table.specs.Meaning.{item_of}
+use Rattle.table_defs.specs.Change.{item_of}
 use Rattle.turn_defs.proofs.Parts.{tells_noted}
 use Rattle.control_core.proofs.state.Core.follow.Goals as goal
 

@@ -7,7 +7,7 @@ use Rattle.switch_defs.specs.Switch.{Host, Standing, port_address, port_of, sess
 use Rattle.switch_defs.specs.Session.{Another, no_guests}
 use Rattle.switch_defs.specs.Decide.{restricted_of, right_of}
 use Rattle.switch_defs.specs.Turn.{fresh_standing, is_full, opened, with_session}
-use Rattle.auth_table.specs.Meaning.{item_of}
+use Rattle.table_defs.specs.Change.{item_of}
 use Rattle.table_defs.proofs.Told.{has_conf}
 use Rattle.turn_defs.specs.Parts.{is_gone}
 use Rattle.turn_defs.specs.Parts as parts

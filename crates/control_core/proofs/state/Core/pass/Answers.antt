@@ -1,7 +1,7 @@
 use Rattle.std.proofs.Common.{◌≡◌, ℕ, map, Option, Some, sym, ap, subst, ◌∙◌}
 use Rattle.host_session.specs.Sits.{right_in}
 use Rattle.host_sessions.specs.Finds.{FindsAt, IsAt}
-use Rattle.auth_table.specs.Meaning.{item_of}
+use Rattle.table_defs.specs.Change.{item_of}
 use Rattle.switch_defs.specs.Switch.{Session, State, hosts}
 use Rattle.switch_defs.specs.Decide.{authorised}
 use Rattle.switch_defs.specs.Sound.{AreApart, HasVlan}

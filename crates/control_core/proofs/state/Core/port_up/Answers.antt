@@ -16,8 +16,8 @@ use Rattle.switch_defs.proofs.Lists.{in_found}
 use Rattle.switch_defs.proofs.Keeping.{confs_map}
 use Rattle.switch_defs.proofs.Hosts.{stays}
 use Rattle.table_defs.proofs.Told.{by_none}
-use Rattle.auth_table.specs.declared.change.Item.{Item}
-use Rattle.auth_table.specs.Meaning.{item_of}
+use Rattle.table_defs.specs.declared.change.Item.{Item}
+use Rattle.table_defs.specs.Change.{item_of}
 use Rattle.switch_ports.specs.Ports.{settled_at, with_said}
 use Rattle.turn_defs.proofs.Parts.{tells_none}
 use Rattle.control_core.specs.declared.state.Core.{Core}

@@ -4,8 +4,8 @@ use Rattle.std.proofs.lemmas.List.{map-append}
 use Rattle.switch_defs.specs.Session.{no_guests}
 use Rattle.table_defs.specs.Table.{Guest}
 use Rattle.table_defs.proofs.Told.{by_no_guests, by_shut}
-use Rattle.auth_table.specs.declared.change.Item.TheVariants as now
-use Rattle.auth_table.specs.Meaning.{item_of}
+use Rattle.table_defs.specs.declared.change.Item.TheVariants as now
+use Rattle.table_defs.specs.Change.{item_of}
 use Rattle.switch_ports.specs.Ports.{lets_guests}
 use Rattle.turn_defs.proofs.Parts.{tells_none, tells_one}
 use Rattle.control_core.proofs.Lemmas.{all_shut}

@@ -6,8 +6,8 @@ use Rattle.switch_defs.specs.Turn as model
 use Rattle.switch_defs.proofs.Soundness.{turns_are_sound}
 use Rattle.switch_defs.proofs.Moving.{unmoved}
 use Rattle.table_defs.proofs.Told.{ToldBy, by_none, tells_by}
-use Rattle.auth_table.specs.declared.change.Item.{Item}
-use Rattle.auth_table.specs.Meaning.{item_of}
+use Rattle.table_defs.specs.declared.change.Item.{Item}
+use Rattle.table_defs.specs.Change.{item_of}
 use Rattle.control_core.specs.Stands.{MayTurn}
 use Rattle.control_core.proofs.state.CoreAuthenticator.turn.Goals as goal
 

@@ -1,7 +1,7 @@
 use Rattle.std.proofs.Common.{◌≡◌, ◌++◌, ℕ, List, length, take, drop, refl, sym, ap, subst, ◌∙◌}
 use Rattle.std.proofs.Math.Seq.{take-append_seam}
 use Rattle.std.proofs.lemmas.List.{map-append}
-use Rattle.trace_record.specs.Entered.{entered, entered_all}
+use Rattle.trace_defs.specs.Entered.{entered, entered_all}
 use Rattle.event_record.specs.Record.{event_of}
 use Rattle.day_maker.specs.declared.notes.Note.{Note}
 use Rattle.day_maker.specs.Hearing.{Hears}

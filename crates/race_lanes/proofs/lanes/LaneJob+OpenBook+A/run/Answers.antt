@@ -1,6 +1,6 @@
 use Rattle.std.proofs.Common.{rules, ◌≡◌, ◌+◌, List, take, length, ◌∙◌, subst, sym, arith}
 use Rattle.legal_defs.specs.Runs.{Numbered, numbered, with_number}
-use Rattle.trace_record.specs.Entered.{entered, entered_all}
+use Rattle.trace_defs.specs.Entered.{entered, entered_all}
 use Rattle.race_lanes.specs.Lanes.{Ran, Counted, MayCome}
 use Rattle.race_lanes.proofs.Placing.{as_many, all_at}
 use Rattle.race_lanes.proofs.Speaking.{same_lane, itself, ran_on, ran_none, counted_on, counted_none, take_zero, take_all}

@@ -2,7 +2,7 @@ use Rattle.std.proofs.Common.{◌≡◌, take, Some}
 use Rattle.book_lock.specs.declared.law.Base.{Base}
 use Rattle.switch_book.specs.declared.open_book.Fixed.{Fixed}
 use Rattle.legal_defs.specs.Runs.{numbered}
-use Rattle.trace_record.specs.Entered.{entered_all}
+use Rattle.trace_defs.specs.Entered.{entered_all}
 use Rattle.race_lanes.specs.Lanes.{Ran, Counted, IsSameLane}
 use Rattle.race_lanes.proofs.lanes.LaneJob+OpenBook+A.run.Given as goal
 

@@ -4,7 +4,7 @@ use Rattle.authenticator.specs.Meaning.{IsEvent}
 use Rattle.switch_book.specs.declared.open_book.Fixed.{Fixed}
 use Rattle.legal_defs.specs.Runs.{ControlRecord, runs_on, with_number}
 use Rattle.legal_defs.specs.Runs.Numbered.{Control}
-use Rattle.trace_record.specs.Entered.{entered}
+use Rattle.trace_defs.specs.Entered.{entered}
 use Rattle.race_lanes.specs.Lanes.{LaneView, MayCome}
 use Rattle.race_lanes.proofs.Speaking.{ran_same, counted_same, ran_offered, counted_offered, not_control, elsewhere, here}
 use Rattle.race_lanes.proofs.lanes.LaneJob+OpenBook+A.take.Goals as goal

@@ -6,7 +6,7 @@ use Rattle.switch_event.specs.Config.{Config}
 use Rattle.logbook.specs.Pages.{Book as Name}
 use Rattle.legal_defs.specs.Runs.{Numbered, numbered}
 use Rattle.legal_defs.specs.Blocks.{Line, text_of, forwarded_in}
-use Rattle.trace_record.specs.Entered.{entered, entered_all}
+use Rattle.trace_defs.specs.Entered.{entered, entered_all}
 use Rattle.race_lanes.specs.declared.workers.WorkerJob.{WorkerJob}
 use Rattle.race_lanes.specs.Workers.{IsFor, seen_by}
 use Rattle.race_lanes.specs.Lines.{PhaseLines}

@@ -1,5 +1,5 @@
 use Rattle.std.proofs.Common.{rules, ◌≡◌, Some}
-use Rattle.trace_record.specs.Entered.{entered_all}
+use Rattle.trace_defs.specs.Entered.{entered_all}
 use Rattle.race_lanes.specs.Standing.{Run}
 use Rattle.race_phases.specs.Raced.{RacedBy}
 use Rattle.race_phases.proofs.Racing.{the_run, numbers_fit, may_come, controls_fit, ran_phase}

@@ -1,6 +1,6 @@
 use Rattle.std.proofs.Common.{◌≡◌, ◌+◌, length}
 use Rattle.history_defs.specs.Output.{controls_in}
-use Rattle.trace_record.specs.Entered.{entered_all}
+use Rattle.trace_defs.specs.Entered.{entered_all}
 use Rattle.race_run.proofs.counter.Counter.count.Given as goal
 
 abbrev pub invariant-loop-rest : goal.invariant-loop-rest

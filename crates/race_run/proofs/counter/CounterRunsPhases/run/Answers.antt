@@ -1,6 +1,6 @@
 use Rattle.std.proofs.Common.{ap, ◌∙◌, ◌+◌, sym}
 use Rattle.std.proofs.lemmas.List.{length-map}
-use Rattle.trace_record.specs.Entered.{entered, entered_all}
+use Rattle.trace_defs.specs.Entered.{entered, entered_all}
 use Rattle.race_run.proofs.CountLemmas.{HasCounted-more}
 use Rattle.race_run.proofs.counter.CounterRunsPhases.run.Goals as goal
 

@@ -1,5 +1,5 @@
 use Rattle.std.proofs.Common.{refl}
-use Rattle.trace_record.specs.Entered.{entered_all}
+use Rattle.trace_defs.specs.Entered.{entered_all}
 use Rattle.race_run.proofs.AloneLemmas.{may_run_there, alone_more}
 use Rattle.race_run.proofs.one_thread.OneThreadRunsPhases.run.Goals as goal
 

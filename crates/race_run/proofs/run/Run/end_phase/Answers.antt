@@ -1,5 +1,5 @@
 use Rattle.std.proofs.Common.{refl, ap}
-use Rattle.trace_record.specs.Entered.{entered_all}
+use Rattle.trace_defs.specs.Entered.{entered_all}
 use Rattle.race_run.specs.Run.{given_by}
 use Rattle.race_run.proofs.StepLemmas.{Steps-phase, Halts-phase, given_same}
 use Rattle.race_run.proofs.SoundLemmas.{may_run, sound_phase}

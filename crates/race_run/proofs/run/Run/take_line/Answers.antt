@@ -4,7 +4,7 @@ use Rattle.trace_defs.specs.Line.Line.{Blank as IsBlank, Begin as IsBegin, Sync 
 use Rattle.trace_defs.specs.Line.Record.{Control as ControlEntry, Data as DataEntry}
 use Rattle.event_record.specs.Record.{event_of}
 use Rattle.authenticator.specs.Meaning.{IsEvent}
-use Rattle.trace_record.specs.declared.TraceRecord.TheVariants.{Control}
+use Rattle.event_record.specs.declared.trace_record.TraceRecord.TheVariants.{Control}
 use Rattle.race_run.specs.declared.run.Run.{Run}
 use Rattle.race_run.specs.Run.{IsSound, given_by}
 use Rattle.race_run.proofs.ReadLemmas.{IsRead-setting, IsRead-begin, reads_event}

@@ -2,7 +2,7 @@ use Rattle.std.proofs.Common.{rules, ◌≡◌, map, ap, ◌∙◌}
 use Rattle.event_record.specs.Record.{event_of}
 use Rattle.switch_event.specs.Event.{happening}
 use Rattle.table_defs.specs.Table.{all_absorbed}
-use Rattle.auth_table.specs.Meaning.{item_of}
+use Rattle.table_defs.specs.Change.{item_of}
 use Rattle.sequential.proofs.RecordLemmas.{Turned-once}
 use Rattle.sequential.proofs.sequential.Sequential.turn.Goals as goal
 

@@ -6,8 +6,8 @@ use Rattle.switch_defs.specs.History.{after}
 use Rattle.switch_defs.specs.Turn.{turn}
 use Rattle.switch_defs.proofs.Settings.{config_turn}
 use Rattle.table_defs.specs.Table.{Items, Tells}
-use Rattle.auth_table.specs.declared.change.Item.{Item}
-use Rattle.auth_table.specs.Meaning.{item_of}
+use Rattle.table_defs.specs.declared.change.Item.{Item}
+use Rattle.table_defs.specs.Change.{item_of}
 use Rattle.auth_publish.specs.Changes.{front_of}
 use Rattle.authenticator.specs.Meaning.{IsEvent}
 use Rattle.switch_book.proofs.Telling.{config_after, kept_open, kept_front, kept_accepted, kept_back}

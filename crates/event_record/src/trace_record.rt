@@ -1,7 +1,5 @@
-//! The records of a trace as a run holds them: plain data that owns its octets.
-#![tactic(auto)]
-
-use event_record::{Octets, Record};
+use crate::octets::Octets;
+use crate::record::Record;
 
 /// A record of a trace.
 #[derive(Drop)]
