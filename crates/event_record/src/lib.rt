@@ -7,7 +7,7 @@ mod record;
 mod trace_record;
 
 pub use entry::Entry;
-pub use event_record::TraceRecord;
+pub use trace_record::TraceRecord;
 pub use octets::Octets;
 pub use record::Record;
 
