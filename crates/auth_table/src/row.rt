@@ -10,15 +10,13 @@ ghost use Rattle.auth_table.specs.Meaning.{ForwardsTagged};
 ghost use Rattle.std.specs.List.{AllByRecursion};
 ghost use Rattle.auth_table.specs.Rows.{HasVlan, entries_of, first_held, right_given, stays};
 
+use switch_event::limit::HOSTS_A_PORT;
 use table_defs::Item;
 use arrayvec::ArrayVec;
 use machine_vars::Control;
 use std::marker::Model;
 use switch_event::{Decision, Drop9, PortConf};
 use wire_core::Mac;
-
-/// How many addresses a port has at most.
-pub(crate) const MOST_HOSTS: usize = 16;
 
 /// An address that is let in: the number of its session, and its VLAN, 1 to 4094.
 #[derive(Clone, Copy, Debug, PartialEq, Eq)]
@@ -45,7 +43,7 @@ pub(crate) struct PortRow {
     link: bool,
     control: Control,
     guest_open: bool,
-    held: ArrayVec<Held, 16>,
+    held: ArrayVec<Held, HOSTS_A_PORT>,
 }
 
 impl Model for PortRow {
@@ -106,7 +104,7 @@ impl PortRow {
             } => {
                 (1..=4094).contains(&vlan)
                     && (find_held(mac, self.held.as_slice()).is_some()
-                        || self.held.len() < MOST_HOSTS)
+                        || self.held.len() < HOSTS_A_PORT)
             }
             _ => true,
         }
@@ -161,7 +159,7 @@ impl PortRow {
     }
 }
 
-fn same_held(held: &[Held]) -> ArrayVec<Held, 16>
+fn same_held(held: &[Held]) -> ArrayVec<Held, HOSTS_A_PORT>
     requires { length held.now ≤ 16 }
     ensures { result.items ≡ held.now }
 {
@@ -188,7 +186,7 @@ fn find_held(address: Mac, held: &[Held]) -> Option<Held>
 }
 
 // From now on the address is held so.
-fn hold(new: Held, held: &mut ArrayVec<Held, 16>)
+fn hold(new: Held, held: &mut ArrayVec<Held, HOSTS_A_PORT>)
     requires few { length held.old.items ≤ 16 }
     requires room { (is_some (right_for new.address.0 (entries_of held.old.items)) || nat_lt (length held.old.items) 16) ≡ true }
     ensures items { held.new.items ≡ filter (stays new.address.0) held.old.items ++ new ∷ [] }
@@ -199,7 +197,7 @@ fn hold(new: Held, held: &mut ArrayVec<Held, 16>)
 }
 
 // From now on the address is not held.
-fn bar(address: Mac, held: &mut ArrayVec<Held, 16>)
+fn bar(address: Mac, held: &mut ArrayVec<Held, HOSTS_A_PORT>)
     ensures { held.new.items ≡ filter (stays address.0) held.old.items }
 {
     held.retain(|h| h.address != address);

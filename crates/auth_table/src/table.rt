@@ -10,6 +10,7 @@ ghost use Rattle.table_defs.specs.Table as model;
 ghost use Rattle.table_defs.specs.Change.{item_of};
 ghost use Rattle.auth_table.specs.Meaning.{ForwardsTagged, row_at};
 
+use wire_defs::ethertype;
 use table_defs::Item;
 use crate::row::PortRow;
 use eth_frame::{EthDrop, Frame};
@@ -21,11 +22,6 @@ use wire_core::Mac;
 
 /// The rows of the table: one for each number of a port from 0 to 60; no port has the number 0.
 const ROWS: usize = 61;
-
-// The types of EAPOL (IEEE Std 802.1X-2004, 7.2) and of a VLAN tag (IEEE Std 802.1Q, 9.6).
-const EAPOL: u16 = 0x888e;
-
-const TAG: u16 = 0x8100;
 
 // The row of the port of one number, where that port is configured.
 #[derive(Drop)]
@@ -189,11 +185,11 @@ pub fn decide(t: &Table, port: u8, frame: &[u8]) -> Decision
 fn first_drop(frame: &Frame<'_>) -> Option<Drop9>
     ensures { result ≡ first_drop_lem (checks (fields frame.now)) }
 {
-    if frame.kind == EAPOL {
+    if frame.kind == ethertype::EAPOL {
         Some(Drop9::Control)
     } else if is_reserved(frame.to) {
         Some(Drop9::Reserved)
-    } else if frame.kind == TAG {
+    } else if frame.kind == ethertype::VLAN_TAG {
         Some(Drop9::Tagged)
     } else if frame.from.0[0] % 2 == 1 {
         Some(Drop9::GroupSource)

@@ -2,6 +2,7 @@
 
 ghost use Rattle.std.specs.Prelude.{◌≡◌};
 
+use wire_core::copied;
 use arrayvec::ArrayVec;
 use switch_event::{Client, Config, Nas, PortConf};
 
@@ -13,10 +14,10 @@ pub fn copied_config(c: &Config) -> Config
         bridge: c.bridge,
         nas: Nas {
             ip: c.nas.ip,
-            name: same_octets(&c.nas.name),
+            name: copied(&c.nas.name),
         },
         server: c.server,
-        secret: same_octets(&c.secret),
+        secret: copied(&c.secret),
         clients: same_clients(&c.clients),
         ports: same_ports(&c.ports),
         times: c.times,
@@ -28,14 +29,6 @@ pub fn copied_config(c: &Config) -> Config
     }
 }
 
-fn same_octets<const N: usize>(octets: &ArrayVec<u8, N>) -> ArrayVec<u8, N>
-    ensures { result ≡ octets.now }
-{
-    let mut same = ArrayVec::new();
-    let _fits = same.try_extend_from_slice(octets.as_slice());
-    same
-}
-
 fn same_clients(clients: &ArrayVec<Client, 4>) -> ArrayVec<Client, 4>
     ensures { result ≡ clients.now }
 {
@@ -43,7 +36,7 @@ fn same_clients(clients: &ArrayVec<Client, 4>) -> ArrayVec<Client, 4>
     for client in clients.as_slice() {
         same.push(Client {
             ip: client.ip,
-            secret: same_octets(&client.secret),
+            secret: copied(&client.secret),
         });
     }
     same

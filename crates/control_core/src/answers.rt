@@ -1,7 +1,7 @@
 //! Answers of the RADIUS server (RFC 2865, 4; RFC 3579; RFC 3580).
 
 ghost use Rattle.std.specs.Prelude.{◌≡◌, ◌≤◌, ◌+◌, IfSome, length};
-ghost use Rattle.out_tray.specs.Tray.{spare};
+ghost use Rattle.out_tray.specs.Tray.{spare, turn_room};
 ghost use Rattle.aaa_client.specs.Meaning.{octets_in, taking};
 ghost use Rattle.radius_packet.specs.Views.{value_in};
 ghost use Rattle.typed_session.specs.Reads.{IsCarried};
@@ -30,7 +30,7 @@ impl Core {
         items: &mut ArrayVec<Item, 1024>,
     ) -> Outcome
         requires may { (s : State) × MayTurn self.old s }
-        requires room { 80000 ≤ spare tray.old }
+        requires room { turn_room ≤ spare tray.old }
         requires few { length items.old.items + 1 ≤ 1024 }
         ensures turns { (s : State) → MayTurn self.old s →
             Turns s (model.do_answer s (answered_on s socket octets.now))
@@ -51,7 +51,7 @@ impl Core {
     fn be_told(&mut self, taken: &Taken<'_>, tray: &mut Tray, items: &mut ArrayVec<Item, 1024>)
         requires may { (y : Session) × (s : State) × MayTell (taking taken.now) y self.old s }
         requires eap { IfSome taken.now.eap (λ eap. 4 ≤ length eap.items) }
-        requires room { 80000 ≤ spare tray.old }
+        requires room { turn_room ≤ spare tray.old }
         requires few { length items.old.items + 1 ≤ 1024 }
         ensures does { (y : Session) (s : State) → MayTell (taking taken.now) y self.old s →
             Does s (told_lem (taking taken.now) y s)

@@ -3,7 +3,7 @@
 ghost use Rattle.std.specs.Prelude.{◌≡◌, ◌≤◌, ◌+◌, List, true, false, length, None, Some};
 ghost use Rattle.wire_defs.specs.Ethernet.{is_control};
 ghost use Rattle.machine_defs.specs.BackendTable.{is_auto as is_auto_lem};
-ghost use Rattle.out_tray.specs.Tray.{spare};
+ghost use Rattle.out_tray.specs.Tray.{spare, turn_room};
 ghost use Rattle.host_frames.specs.Heard.{IsShort, event_of};
 ghost use Rattle.switch_defs.specs.Switch.{Port, Session, State, port_of, session_at};
 ghost use Rattle.switch_defs.specs.Sound.{IsUp};
@@ -15,6 +15,7 @@ ghost use Rattle.control_core.specs.Stands.{MayTurn};
 ghost use Rattle.control_core.specs.Does.{Does, IsHere, IsKnown, Turns};
 ghost use Rattle.control_core.specs.Hearing.{MayBegin, MayHear};
 
+use switch_event::limit::HOSTS_A_PORT;
 use crate::state::Core;
 use arrayvec::ArrayVec;
 use table_defs::Item;
@@ -33,9 +34,6 @@ const NO_SESSION: u8 = 13;
 
 const PORT_FULL: u8 = 14;
 
-// How many hosts a port may have.
-const HOSTS: usize = 16;
-
 impl Core {
     // A frame of EAPOL came in on a port.
     pub(crate) fn do_frame(
@@ -47,7 +45,7 @@ impl Core {
     ) -> Outcome
         requires may { (s : State) × MayTurn self.old s }
         requires control { is_control octets.now ≡ true }
-        requires room { 80000 ≤ spare tray.old }
+        requires room { turn_room ≤ spare tray.old }
         requires few { length items.old.items + 2 ≤ 1024 }
         ensures turns { (s : State) → MayTurn self.old s →
             Turns s (model.do_frame s (frame_case s octets.now (port_of n s)))
@@ -77,7 +75,7 @@ impl Core {
         requires may { (s : State) × (q : Port) × IsHere conf control q s
             × MayHear (control_case s q heard.now.from.0 (event_of heard.now.said)) self.old s }
         requires short { IsShort heard.now.said }
-        requires room { 80000 ≤ spare tray.old }
+        requires room { turn_room ≤ spare tray.old }
         requires few { length items.old.items + 2 ≤ 1024 }
         ensures turns { (s : State) (q : Port) → IsHere conf control q s →
             MayHear (control_case s q heard.now.from.0 (event_of heard.now.said)) self.old s →
@@ -99,7 +97,7 @@ impl Core {
     fn hear_forced(&mut self, port: u8, heard: &Heard<'_>, tray: &mut Tray) -> Outcome
         requires may { (s : State) × (q : Port) × IsUp s q × (q.conf.port ≡ port)
             × (is_auto_lem q.control ≡ false) × MayTurn self.old s }
-        requires room { 80000 ≤ spare tray.old }
+        requires room { turn_room ≤ spare tray.old }
         ensures turns { (s : State) (q : Port) (items : List Told) → IsUp s q → q.conf.port ≡ port →
             is_auto_lem q.control ≡ false → MayTurn self.old s →
             Turns s (model.do_frame s (control_case s q heard.now.from.0 (event_of heard.now.said)))
@@ -124,7 +122,7 @@ impl Core {
         requires may { (s : State) × (q : Port) × IsHere conf Control.Auto q s
             × (session_at conf.port heard.now.from.0 s ≡ None)
             × MayHear (known_case s q heard.now.from.0 (event_of heard.now.said) None) self.old s }
-        requires room { 80000 ≤ spare tray.old }
+        requires room { turn_room ≤ spare tray.old }
         requires few { length items.old.items + 2 ≤ 1024 }
         ensures turns { (s : State) (q : Port) → IsHere conf Control.Auto q s →
             session_at conf.port heard.now.from.0 s ≡ None →
@@ -138,7 +136,7 @@ impl Core {
         if is_logoff(heard) {
             return Outcome::FrameDropped(NO_SESSION);
         }
-        if self.sessions.count(conf.port) >= HOSTS {
+        if self.sessions.count(conf.port) >= HOSTS_A_PORT {
             return Outcome::FrameDropped(PORT_FULL);
         }
         self.open_session(conf, heard.from, tray, items);
@@ -154,7 +152,7 @@ impl Core {
         items: &mut ArrayVec<Item, 1024>,
     )
         requires may { (s : State) × (q : Port) × MayBegin conf q from.0 self.old s }
-        requires room { 80000 ≤ spare tray.old }
+        requires room { turn_room ≤ spare tray.old }
         requires few { length items.old.items + 2 ≤ 1024 }
         ensures does { (s : State) (q : Port) → MayBegin conf q from.0 self.old s →
             Does s (model.open_session s q from.0)
@@ -182,7 +180,7 @@ impl Core {
         requires may { (s : State) × (y : Session) × IsKnown at y port heard.now.from.0 self.old s
             × MayHear (model.Turns y (event_of heard.now.said)) self.old s }
         requires short { IsShort heard.now.said }
-        requires room { 80000 ≤ spare tray.old }
+        requires room { turn_room ≤ spare tray.old }
         requires few { length items.old.items + 1 ≤ 1024 }
         ensures turns { (s : State) (y : Session) → IsKnown at y port heard.now.from.0 self.old s →
             MayHear (model.Turns y (event_of heard.now.said)) self.old s →

@@ -4,7 +4,7 @@ ghost use Rattle.std.specs.Prelude.{◌≡◌, ◌≤◌, ◌+◌, ◌-◌, ◌<
 ghost use Rattle.machine_defs.specs.BackendTable.{is_auto as is_auto_lem};
 ghost use Rattle.machine_defs.specs.PaeTable.{same_control};
 ghost use Rattle.machine_defs.specs.Live.{InRange};
-ghost use Rattle.out_tray.specs.Tray.{spare};
+ghost use Rattle.out_tray.specs.Tray.{spare, turn_room};
 ghost use Rattle.switch_defs.specs.Switch.{Port, Session, State, on_port, port_of, turned};
 ghost use Rattle.switch_defs.specs.Turn as model;
 ghost use Rattle.turn_defs.proofs.Walks.{after_closing, next_place};
@@ -13,6 +13,7 @@ ghost use Rattle.control_core.specs.Stands.{Holds, MayTurn};
 ghost use Rattle.control_core.specs.Does.{Does, TellsOn, Turns};
 ghost use Rattle.control_core.specs.Walked.{MayClose, MayEnd};
 
+use wire_defs::PAE_GROUP;
 use crate::state::Core;
 use arrayvec::ArrayVec;
 use table_defs::Item;
@@ -21,9 +22,6 @@ use machine_vars::{Control, Times};
 use out_tray::Tray;
 use switch_event::{Config, Outcome};
 use wire_core::Mac;
-
-// The group address of all port access entities (IEEE Std 802.1X-2004, 7.8).
-const PAE_GROUP: Mac = Mac([0x01, 0x80, 0xc2, 0x00, 0x00, 0x03]);
 
 impl Core {
     // The link of a port comes up or goes down.
@@ -35,7 +33,7 @@ impl Core {
         items: &mut ArrayVec<Item, 1024>,
     ) -> Outcome
         requires may { (s : State) × MayTurn self.old s }
-        requires room { 80000 ≤ spare tray.old }
+        requires room { turn_room ≤ spare tray.old }
         requires new { length items.old.items ≡ 0 }
         ensures turns { (s : State) → MayTurn self.old s →
             Turns s (turned Outcome.Done (model.do_link up (port_of n s) s))
@@ -70,7 +68,7 @@ impl Core {
         items: &mut ArrayVec<Item, 1024>,
     ) -> Outcome
         requires may { (s : State) × MayTurn self.old s }
-        requires room { 80000 ≤ spare tray.old }
+        requires room { turn_room ≤ spare tray.old }
         requires new { length items.old.items ≡ 0 }
         ensures turns { (s : State) → MayTurn self.old s →
             Turns s (turned Outcome.Done (model.do_control control (port_of n s) s))
@@ -100,7 +98,7 @@ impl Core {
     fn port_up(&mut self, n: u8, control: Control, tray: &mut Tray)
         requires may { (s : State) × (q : Port) × (port_of n s ≡ Some q) × Holds self.old s
             × InRange s.config.times }
-        requires room { 80000 ≤ spare tray.old }
+        requires room { turn_room ≤ spare tray.old }
         ensures does { (s : State) (q : Port) (items : List Told) → port_of n s ≡ Some q →
             Holds self.old s → InRange s.config.times →
             Does s (model.port_up q control s) self.new tray.old tray.new items items }
@@ -109,7 +107,7 @@ impl Core {
         let own = self.own(n);
         if is_auto(control) {
             self.arm(n);
-            eap_frames::put(n, own, PAE_GROUP, &identity_request(0), tray);
+            eap_frames::put(n, own, Mac(PAE_GROUP), &identity_request(0), tray);
         } else {
             let times = times(&self.config);
             self.ports.begin(n, own, control, &times, tray);

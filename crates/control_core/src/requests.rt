@@ -3,7 +3,7 @@
 ghost use Rattle.std.specs.Prelude.{◌≡◌, ◌≤◌, ◌+◌, length, Some};
 ghost use Rattle.radius_defs.specs.InRange.{HasTime};
 ghost use Rattle.dynauth_defs.specs.Answered.{IsAnswered};
-ghost use Rattle.out_tray.specs.Tray.{spare};
+ghost use Rattle.out_tray.specs.Tray.{spare, turn_room};
 ghost use Rattle.typed_session.specs.Follows.{with_sent};
 ghost use Rattle.switch_defs.specs.Switch.{Session, State, session_numbered};
 ghost use Rattle.switch_defs.specs.Dynamic as dynamic;
@@ -35,7 +35,7 @@ impl Core {
         items: &mut ArrayVec<Item, 1024>,
     ) -> Outcome
         requires may { (s : State) × MayTurn self.old s }
-        requires room { 80000 ≤ spare tray.old }
+        requires room { turn_room ≤ spare tray.old }
         requires few { length items.old.items + 1 ≤ 1024 }
         ensures turns { (s : State) → MayTurn self.old s →
             Turns s (model.do_request s from octets.now (judged_on s from octets.now))

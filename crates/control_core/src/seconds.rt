@@ -1,7 +1,7 @@
 //! Seconds.
 
 ghost use Rattle.std.specs.Prelude.{◌≡◌, ◌≤◌, ◌+◌, None, true, false, length};
-ghost use Rattle.out_tray.specs.Tray.{spare};
+ghost use Rattle.out_tray.specs.Tray.{second_room, spare};
 ghost use Rattle.switch_event.specs.Event as event;
 ghost use Rattle.host_session.specs.Sits.{right_in};
 ghost use Rattle.switch_defs.specs.Switch.{Session, State, hosts};
@@ -24,7 +24,7 @@ impl Core {
     // A second goes by: for the clock, for guests, and for each session that there is.
     pub(crate) fn second(&mut self, tray: &mut Tray, items: &mut ArrayVec<Item, 1024>) -> Outcome
         requires may { (s : State) × MayTurn self.old s }
-        requires room { 9500000 ≤ spare tray.old }
+        requires room { second_room ≤ spare tray.old }
         requires few { length items.old.items + 1020 ≤ 1024 }
         ensures turns { (s : State) → MayTurn self.old s → Turns s (model.turn s event.Second)
             self.new result tray.old tray.new items.old.items items.new.items }
@@ -56,7 +56,7 @@ impl Core {
     // next has its place in the order.
     fn each_second(&mut self, tray: &mut Tray, items: &mut ArrayVec<Item, 1024>)
         requires may { (s : State) × Holds self.old s × MayPass (length s.sessions) s }
-        requires room { 9500000 ≤ spare tray.old }
+        requires room { second_room ≤ spare tray.old }
         requires few { length items.old.items + 960 ≤ 1024 }
         ensures does { (s : State) → Holds self.old s → MayPass (length s.sessions) s →
             Does s (model.each_second s.sessions s)

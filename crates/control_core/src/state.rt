@@ -1,5 +1,5 @@
 ghost use Rattle.std.specs.Prelude.{◌≡◌, ◌≤◌, ◌<◌, ◌+◌, ℕ, [], true, length, IfOk, map};
-ghost use Rattle.out_tray.specs.Tray.{spare};
+ghost use Rattle.out_tray.specs.Tray.{second_room, spare};
 ghost use Rattle.switch_event.specs.Config.{is_valid};
 ghost use Rattle.switch_event.specs.Event.{happening};
 ghost use Rattle.switch_defs.specs.Switch.{State, opening, most_sessions};
@@ -95,7 +95,7 @@ impl Core {
         items: &mut ArrayVec<Item, 1024>,
     ) -> Outcome
         requires event { (s : State) × MayTurn self.old s × IsEvent s.config (happening e.now) }
-        requires room { 9500000 ≤ spare tray.old }
+        requires room { second_room ≤ spare tray.old }
         requires new { length items.old.items ≡ 0 }
         ensures turns { (s : State) → MayTurn self.old s → Turns s (model.turn s (happening e.now))
             self.new result tray.old tray.new items.old.items items.new.items }

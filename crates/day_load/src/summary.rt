@@ -3,6 +3,7 @@ ghost use Rattle.std.specs.Prelude.{◌≡◌, ◌+◌, ◌≤◌, ◌++◌, len
 ghost use Rattle.std.specs.Fmt.{decimal};
 ghost use Rattle.day_load.specs.Summary.{summary_text};
 
+use wire_core::append;
 use arrayvec::ArrayVec;
 
 /// What a day came to.
@@ -28,7 +29,7 @@ pub fn summary_line(hosts: u8, summary: &Summary) -> ArrayVec<u8, 160>
     put(&mut line, b" data ", summary.frames);
     put(&mut line, b" forwarded ", summary.forwarded);
     put(&mut line, b" sessions ", summary.sessions as u64);
-    append(&mut line, b"\n");
+    append(b"\n", &mut line);
     line
 }
 
@@ -39,13 +40,6 @@ fn put(line: &mut ArrayVec<u8, 160>, name: &[u8], number: u64)
     ensures short { length line.new.items ≤ length line.old.items + length name.now + 20 }
 {
     let mut digits = itoa::Buffer::new();
-    append(line, name);
-    append(line, digits.format(number).as_bytes());
-}
-
-fn append(line: &mut ArrayVec<u8, 160>, piece: &[u8])
-    requires { length line.old.items + length piece.now ≤ 160 }
-    ensures { line.new.items ≡ line.old.items ++ piece.now }
-{
-    let _fits = line.try_extend_from_slice(piece);
+    append(name, line);
+    append(digits.format(number).as_bytes(), line);
 }

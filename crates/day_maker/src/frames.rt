@@ -4,15 +4,10 @@ ghost use Rattle.arrayvec.specs.ArrayVec.{array_vec_len};
 ghost use Rattle.wire_defs.specs.Eapol.{eapol_text};
 ghost use Rattle.day_defs.specs.Office as office;
 
+use wire_defs::{PAE_GROUP, ethertype};
 use arrayvec::ArrayVec;
 use day_defs::PORTS;
-use wire_core::{Mac, two_octets};
-
-// The address of the port access entity (IEEE Std 802.1X-2004, 7.8).
-const PAE_GROUP: Mac = Mac([0x01, 0x80, 0xc2, 0, 0, 0x03]);
-
-// The type of EAPOL (IEEE Std 802.1X-2004, 7.2).
-const EAPOL: u16 = 0x888e;
+use wire_core::{Mac, append, two_octets};
 
 // A station beyond the switch, and the type of what is sent to it: IPv4.
 const FAR_STATION: Mac = Mac([0x02, 0, 0, 0x0f, 0xff, 0xff]);
@@ -44,7 +39,7 @@ pub fn address_of_host(host: u8) -> Mac
 pub fn start_frame(host: u8, out: &mut ArrayVec<u8, 1518>)
     ensures { out.new.items ≡ office.start_frame host }
 {
-    eth_frame::write_plain(PAE_GROUP, address_of_host(host), EAPOL, &START, out);
+    eth_frame::write_plain(Mac(PAE_GROUP), address_of_host(host), ethertype::EAPOL, &START, out);
 }
 
 /// Replaces `out` by the Response in which a host gives its identity, to the Request of this identifier.
@@ -54,9 +49,9 @@ pub fn response_frame(host: u8, id: u8, out: &mut ArrayVec<u8, 1518>)
     let mut packet = ArrayVec::new();
     eapol_frame::write(identity_response(host, id).as_slice(), &mut packet);
     eth_frame::write_plain(
-        PAE_GROUP,
+        Mac(PAE_GROUP),
         address_of_host(host),
-        EAPOL,
+        ethertype::EAPOL,
         packet.as_slice(),
         out,
     );
@@ -76,15 +71,8 @@ fn identity_response(host: u8, id: u8) -> ArrayVec<u8, 12>
     let mut digits = itoa::Buffer::new();
     let number = digits.format(host).as_bytes();
     let mut out = ArrayVec::new();
-    append(&mut out, &[2, id, 0, 9 + number.len() as u8, 1]);
-    append(&mut out, b"user");
-    append(&mut out, number);
+    append(&[2, id, 0, 9 + number.len() as u8, 1], &mut out);
+    append(b"user", &mut out);
+    append(number, &mut out);
     out
-}
-
-fn append(out: &mut ArrayVec<u8, 12>, piece: &[u8])
-    requires { array_vec_len out.old + length piece.now ≤ 12 }
-    ensures { out.new.items ≡ out.old.items ++ piece.now }
-{
-    let _fits = out.try_extend_from_slice(piece);
 }

@@ -10,6 +10,7 @@ ghost use Rattle.wire_defs.specs.Ethernet.{is_control};
 ghost use Rattle.day_maker.specs.Hearing.{note_of};
 ghost use Rattle.day_maker.specs.Making.{Stands, Adds, Turned, TurnsFew, Makes};
 
+use switch_event::limit::SESSIONS;
 use crate::accept::accept;
 use crate::frames::{data_frame, port_of_host, response_frame, start_frame};
 use crate::notes::{Note, blank_notes, hear_all};
@@ -23,9 +24,6 @@ use switch_event::Config;
 
 // The records of a day come on the first lane.
 const LANE: u8 = 1;
-
-// How many sessions a tray has room for: those of 16 hosts on each of 60 ports.
-const SESSIONS: usize = 960;
 
 /// Makes the records of a day of some hosts, and runs them as it makes them.
 #[derive(Drop)]

@@ -1,6 +1,7 @@
 ghost use Rattle.std.specs.Prelude.{◌≡◌, ◌≤◌, [], length, IfOk};
 ghost use Rattle.kept_defs.specs.Kept.{is_repeat};
 
+use wire_core::replace;
 use arrayvec::ArrayVec;
 use kept_defs::KEPT_SECONDS;
 use std::alloc::{AllocError, Global};
@@ -49,8 +50,8 @@ impl Slot {
     {
         self.moment = now;
         self.sport = sport;
-        replace(&mut self.request, request);
-        replace(&mut self.reply, reply);
+        replace(request, &mut self.request);
+        replace(reply, &mut self.reply);
     }
 
     // The port and the moment decide first, then the lengths, the first four octets, and the others in
@@ -89,13 +90,4 @@ impl Slot {
     {
         self.reply.as_slice()
     }
-}
-
-// The octets in place of what was there.
-fn replace(room: &mut Room, octets: &[u8])
-    requires { length octets.now ≤ 4096 }
-    ensures { room.new.items ≡ octets.now }
-{
-    room.clear();
-    let _fits = room.try_extend_from_slice(octets);
 }

@@ -3,6 +3,7 @@ ghost use Rattle.arrayvec.specs.ArrayVec.{array_vec_len};
 ghost use Rattle.wire_defs.specs.declared.Kind.TheVariants.{EapPacket};
 ghost use Rattle.wire_defs.specs.Eapol.{EapolOf, eapol_text};
 
+use wire_core::append;
 use arrayvec::ArrayVec;
 
 // The version that is written, and the type EAP-Packet.
@@ -23,11 +24,4 @@ pub fn write(eap: &[u8], out: &mut ArrayVec<u8, 1504>)
         out,
     );
     append(eap, out);
-}
-
-fn append(octets: &[u8], out: &mut ArrayVec<u8, 1504>)
-    requires { array_vec_len out.old + length octets.now ≤ 1504 }
-    ensures { out.new.items ≡ out.old.items ++ octets.now }
-{
-    let _fits = out.try_extend_from_slice(octets);
 }

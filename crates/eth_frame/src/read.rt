@@ -3,6 +3,7 @@ ghost use Rattle.wire_defs.specs.Ethernet.{Frame as Fields, EthOf, eth_of, is_co
 ghost use Rattle.wire_defs.specs.declared.EthDrop.{EthDrop as Drop};
 ghost use Rattle.eth_frame.specs.Frame.{meaning};
 
+use wire_defs::ethertype;
 use wire_core::Mac;
 use wire_defs::EthDrop;
 
@@ -10,9 +11,6 @@ use wire_defs::EthDrop;
 const LEAST: usize = 14;
 
 const MOST: usize = 1518;
-
-// The type of EAPOL (IEEE Std 802.1X-2004, 7.2).
-const EAPOL: u16 = 0x888e;
 
 /// The fields of a frame; its body is borrowed from the octets that it was read from.
 #[derive(Clone, Copy, Debug, PartialEq, Eq)]
@@ -51,5 +49,5 @@ pub fn parse(b: &[u8]) -> Result<Frame<'_>, EthDrop>
 pub fn is_control(b: &[u8]) -> bool
     ensures { result ≡ is_control_lem b.now }
 {
-    b.len() >= LEAST && b.len() <= MOST && u16::from(b[12]) * 256 + u16::from(b[13]) == EAPOL
+    b.len() >= LEAST && b.len() <= MOST && u16::from_be_bytes([b[12], b[13]]) == ethertype::EAPOL
 }

@@ -4,12 +4,10 @@ ghost use Rattle.wire_defs.specs.Number.{two_octets as two_octets_lem};
 ghost use Rattle.wire_defs.specs.Ethernet.{IsFrame, EthOf, plain_text, tagged_text, tagged};
 ghost use Rattle.eth_frame.specs.Frame.{fields, fields_from};
 
+use wire_defs::ethertype;
 use crate::Frame;
 use arrayvec::ArrayVec;
-use wire_core::Mac;
-
-// The type of a VLAN tag (IEEE Std 802.1Q, 9.6).
-const TAG: u16 = 0x8100;
+use wire_core::{Mac, append};
 
 /// Replaces `out` by the octets of a frame. The body has at most 1,504 octets.
 pub fn write_plain(to: Mac, from: Mac, kind: u16, body: &[u8], out: &mut ArrayVec<u8, 1518>)
@@ -36,7 +34,7 @@ pub fn write_tagged(f: &Frame<'_>, vlan: u16, out: &mut ArrayVec<u8, 1522>)
     out.clear();
     append(&f.to.0, out);
     append(&f.from.0, out);
-    append(&two_octets(TAG), out);
+    append(&two_octets(ethertype::VLAN_TAG), out);
     append(&two_octets(vlan), out);
     append(&two_octets(f.kind), out);
     append(f.body, out);
@@ -46,11 +44,4 @@ fn two_octets(number: u16) -> [u8; 2]
     ensures { result ≡ two_octets_lem number }
 {
     [(number / 256) as u8, (number % 256) as u8]
-}
-
-fn append<const N: usize>(octets: &[u8], out: &mut ArrayVec<u8, N>)
-    requires { array_vec_len out.old + length octets.now ≤ N }
-    ensures { out.new.items ≡ out.old.items ++ octets.now }
-{
-    let _fits = out.try_extend_from_slice(octets);
 }

@@ -7,9 +7,9 @@ mod record;
 mod trace_record;
 
 pub use entry::Entry;
-pub use trace_record::TraceRecord;
 pub use octets::Octets;
 pub use record::Record;
+pub use trace_record::TraceRecord;
 
 /// The most control events of a history, and so the most control records of a trace.
 pub const MOST_EVENTS: usize = 1_048_576;

@@ -7,11 +7,9 @@ ghost use Rattle.switch_defs.specs.Switch.{Port, State, own_address};
 ghost use Rattle.switch_defs.specs.Turn.{frame_case, eapol_case, eap_case, eapol_line as eapol_line_lem, eap_line as eap_line_lem};
 ghost use Rattle.host_frames.specs.Heard.{case_of, IsShort};
 
+use wire_defs::PAE_GROUP;
 use wire_core::Mac;
 use wire_defs::{EapDrop, EapolDrop, Kind};
-
-// The address that a port access entity listens to (IEEE Std 802.1X-2004, 7.8).
-const PAE_GROUP: Mac = Mac([0x01, 0x80, 0xc2, 0x00, 0x00, 0x03]);
 
 // The code of a Response (RFC 3748, 4.1).
 const RESPONSE: u8 = 2;
@@ -76,7 +74,7 @@ pub fn read<'a>(own: Mac, up: bool, octets: &'a [u8]) -> Result<Heard<'a>, u8>
 fn is_elsewhere(own: Mac, to: Mac) -> bool
     ensures { result ≡ not (bytes_eq to.0 pae_group || bytes_eq to.0 own.0) }
 {
-    to != PAE_GROUP && to != own
+    to != Mac(PAE_GROUP) && to != own
 }
 
 // The lowest bit of the first octet is set (IEEE Std 802.3, 3.2.3).

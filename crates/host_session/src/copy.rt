@@ -1,5 +1,6 @@
 ghost use Rattle.std.specs.Prelude.{◌≡◌};
 
+use wire_core::{copied, fill};
 use crate::session::Session;
 use arrayvec::ArrayVec;
 use session_table::CopyFrom;
@@ -40,23 +41,8 @@ fn copy_state(to: &mut Option<ArrayVec<u8, 253>>, from: &Option<ArrayVec<u8, 253
     match from {
         Some(octets) => match to {
             Some(kept) => fill(kept, octets),
-            None => *to = Some(copied_octets(octets)),
+            None => *to = Some(copied(octets)),
         },
         None => *to = None,
     }
-}
-
-fn fill(to: &mut ArrayVec<u8, 253>, from: &ArrayVec<u8, 253>)
-    ensures { to.new ≡ from.now }
-{
-    to.clear();
-    let _fits = to.try_extend_from_slice(from.as_slice());
-}
-
-fn copied_octets(octets: &ArrayVec<u8, 253>) -> ArrayVec<u8, 253>
-    ensures { result ≡ octets.now }
-{
-    let mut copy = ArrayVec::new();
-    fill(&mut copy, octets);
-    copy
 }

@@ -3,7 +3,7 @@
 ghost use Rattle.std.specs.Prelude.{◌≡◌, ◌≤◌, ◌+◌, ◌-◌, ◌||◌, true, false, length, IfSome};
 ghost use Rattle.machine_defs.specs.Live as live;
 ghost use Rattle.machine_defs.specs.Live.{Packet};
-ghost use Rattle.out_tray.specs.Tray.{spare};
+ghost use Rattle.out_tray.specs.Tray.{answer_room, frame_room, spare};
 ghost use Rattle.aaa_defs.specs.Said as word;
 ghost use Rattle.typed_session.specs.Reads.{IsTold};
 ghost use Rattle.radius_packet.specs.Views.{value_in};
@@ -28,12 +28,12 @@ impl Session {
     /// which must be spare. What is wanted of the server's side is the caller's to do.
     pub fn hear(&mut self, said: Said<'_>, tray: &mut Tray) -> Wants
         requires short { IsShort said }
-        requires room { 1534 ≤ spare tray.old }
+        requires room { frame_room ≤ spare tray.old }
         ensures settles { (x : Standing) → SitsAs self.old x →
             Settles (cause_of (event_of said.entry)) (set_vars (event_of said.entry) x) self.new result
             tray.old tray.new }
         ensures number { self.new.number ≡ self.old.number }
-        ensures room { spare tray.old ≤ spare tray.new + 1534 }
+        ensures room { spare tray.old ≤ spare tray.new + frame_room }
     {
         match said {
             Said::Start => self.start(tray),
@@ -43,11 +43,11 @@ impl Session {
     }
 
     fn start(&mut self, tray: &mut Tray) -> Wants
-        requires { 1534 ≤ spare tray.old }
+        requires { frame_room ≤ spare tray.old }
         ensures settles { (x : Standing) → SitsAs self.old x →
             Settles Another (set_vars live.Start x) self.new result tray.old tray.new }
         ensures number { self.new.number ≡ self.old.number }
-        ensures room { spare tray.old ≤ spare tray.new + 1534 }
+        ensures room { spare tray.old ≤ spare tray.new + frame_room }
     {
         self.host.on_start(tray);
         self.rest()
@@ -55,11 +55,11 @@ impl Session {
 
     // A host that logs off is no longer one that was rejected.
     fn log_off(&mut self, tray: &mut Tray) -> Wants
-        requires { 1534 ≤ spare tray.old }
+        requires { frame_room ≤ spare tray.old }
         ensures settles { (x : Standing) → SitsAs self.old x →
             Settles ALogoff (set_vars live.Logoff x) self.new result tray.old tray.new }
         ensures number { self.new.number ≡ self.old.number }
-        ensures room { spare tray.old ≤ spare tray.new + 1534 }
+        ensures room { spare tray.old ≤ spare tray.new + frame_room }
     {
         self.host.on_logoff(tray);
         self.restricted = false;
@@ -82,12 +82,12 @@ impl Session {
     pub fn be_told(&mut self, told: &Told<'_>, tray: &mut Tray) -> Wants
         requires told { IsTold told.now.verdict }
         requires state { IfSome told.now.state (λ s. length s.now ≤ 253) }
-        requires room { 3068 ≤ spare tray.old }
+        requires room { answer_room ≤ spare tray.old }
         ensures settles { (x : Standing) (meant : word.Said) → SitsAs self.old x →
             Means told.now meant x.vars.times x.vars.current_id (kept_of x) →
             Settles AnAnswer (stands meant x) self.new result tray.old tray.new }
         ensures number { self.new.number ≡ self.old.number }
-        ensures room { spare tray.old ≤ spare tray.new + 3068 }
+        ensures room { spare tray.old ≤ spare tray.new + answer_room }
     {
         self.host.on_server(&told.verdict, tray);
         self.keep(told);
@@ -114,12 +114,12 @@ impl Session {
     /// A second goes by, in which the server may be given up; the session's end is a second nearer. It
     /// may take 1,534 octets of the tray, which must be spare.
     pub fn second(&mut self, gave_up: bool, tray: &mut Tray) -> Wants
-        requires { 1534 ≤ spare tray.old }
+        requires { frame_room ≤ spare tray.old }
         ensures settles { (x : Standing) → SitsAs self.old x →
             Settles Another (set_vars (live.Second gave_up) (record x { end_while = x.end_while - 1 }))
             self.new result tray.old tray.new }
         ensures number { self.new.number ≡ self.old.number }
-        ensures room { spare tray.old ≤ spare tray.new + 1534 }
+        ensures room { spare tray.old ≤ spare tray.new + frame_room }
     {
         self.host.on_second(gave_up, tray);
         self.end_while = self.end_while.saturating_sub(1);

@@ -1,6 +1,6 @@
 ghost use Rattle.std.specs.Prelude.{◌≡◌, ◌≤◌, ◌+◌};
 ghost use Rattle.machine_defs.specs.Live.{InRange};
-ghost use Rattle.out_tray.specs.Tray.{spare};
+ghost use Rattle.out_tray.specs.Tray.{frame_room, spare};
 ghost use Rattle.switch_defs.specs.Session.{Another};
 ghost use Rattle.host_session.specs.Settles.{Settles, beginning};
 
@@ -22,11 +22,11 @@ pub fn open(
     tray: &mut Tray,
 ) -> (Session, Wants)
     requires times { InRange times.now }
-    requires room { 1534 ≤ spare tray.old }
+    requires room { frame_room ≤ spare tray.old }
     ensures settles { Settles Another (beginning port own.0 peer.0 native times.now) result.0 result.1
         tray.old tray.new }
     ensures number { result.0.number ≡ number }
-    ensures room { spare tray.old ≤ spare tray.new + 1534 }
+    ensures room { spare tray.old ≤ spare tray.new + frame_room }
 {
     let host = typed_session::open(port, own, peer, times, tray);
     let mut session = Session {

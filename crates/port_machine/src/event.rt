@@ -4,6 +4,7 @@ ghost use Rattle.machine_defs.specs.Settling.{next};
 ghost use Rattle.machine_defs.specs.Settled.{Settled};
 ghost use Rattle.machine_defs.specs.Live.{Live, Ready, set, cleared, to_all, as_octets, Start, Logoff, Greeting, Packet, Challenge, Notice, Accept, Reject, Second, Change};
 
+use wire_defs::PAE_GROUP;
 use machine_vars::{Control, Vars};
 use wire_core::Mac;
 
@@ -48,8 +49,7 @@ pub fn to_all(v: &mut Vars)
     ensures idle { next v.old ≡ None → next v.new ≡ None }
     ensures settled { Settled v.old → Settled v.new }
 {
-    let group = [0x01, 0x80, 0xc2, 0x00, 0x00, 0x03];
-    v.peer = group;
+    v.peer = PAE_GROUP;
 }
 
 /// An EAP packet of the host, of at most 1,500 octets. To be settled.

@@ -3,7 +3,7 @@ ghost use Rattle.machine_defs.specs.Settling.{TakesNext, Settles, next};
 ghost use Rattle.machine_defs.specs.Live.{Ready, Live};
 ghost use Rattle.machine_defs.specs.Settled.{Settled};
 ghost use Rattle.machine_vars.specs.declared.states.Row.{Row as RowValue};
-ghost use Rattle.out_tray.specs.Tray.{spare};
+ghost use Rattle.out_tray.specs.Tray.{frame_room, spare, turn_room};
 ghost use Rattle.switch_event.specs.Frames.{frames};
 ghost use Rattle.port_machine.specs.Sends.{sent_by};
 
@@ -18,7 +18,7 @@ use wire_core::Mac;
 /// each. The value afterwards is one of the nine settled combinations. No memory.
 pub fn settle(v: &mut Vars, tray: &mut Tray) -> u32
     requires ready { Ready v.old }
-    requires room { 80000 ≤ spare tray.old }
+    requires room { turn_room ≤ spare tray.old }
     ensures chain { (rows : List RowValue) × (sent : List (List ℕ)) × Settles v.old rows sent v.new
         × (length rows ≡ result)
         × (tray.new ≡ record tray.old { items = tray.old.items ++ frames v.old sent }) }
@@ -57,9 +57,9 @@ pub(crate) fn next_row(v: &mut Vars) -> Option<Row>
 
 // Sends what the row that was taken sends.
 fn send(row: Row, v: &Vars, tray: &mut Tray)
-    requires { 1534 ≤ spare tray.old }
+    requires { frame_room ≤ spare tray.old }
     ensures sent { tray.new ≡ record tray.old { items = tray.old.items ++ frames v.now (sent_by row v.now) } }
-    ensures room { spare tray.old ≤ spare tray.new + 1534 }
+    ensures room { spare tray.old ≤ spare tray.new + frame_room }
 {
     match row {
         Row::P(2 | 17) => put(v, &[3, v.current_id, 0, 4], tray),
@@ -72,9 +72,9 @@ fn send(row: Row, v: &Vars, tray: &mut Tray)
 
 fn put(v: &Vars, eap: &[u8], tray: &mut Tray)
     requires short { length eap.now ≤ 1500 }
-    requires spare { 1534 ≤ spare tray.old }
+    requires spare { frame_room ≤ spare tray.old }
     ensures sent { tray.new ≡ record tray.old { items = tray.old.items ++ frames v.now (eap.now ∷ []) } }
-    ensures room { spare tray.old ≤ spare tray.new + 1534 }
+    ensures room { spare tray.old ≤ spare tray.new + frame_room }
 {
     eap_frames::put(v.port, Mac(v.own), Mac(v.peer), eap, tray);
 }

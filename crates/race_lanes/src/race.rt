@@ -18,6 +18,7 @@ ghost use Rattle.race_lanes.specs.Workers.{IsFor, seen_by};
 ghost use Rattle.race_lanes.specs.Lines.{PhaseLines};
 ghost use Rattle.race_lanes.specs.Standing.{Stands};
 
+use switch_event::limit::SESSIONS;
 use crate::closing::{finish_all, tell_all};
 use crate::lanes::LaneOut;
 use crate::order::{any_failed, merge};
@@ -35,9 +36,6 @@ use std::thread::Threads;
 use switch_book::Book;
 use switch_event::Config;
 use event_record::TraceRecord;
-
-// How many sessions a tray has room for: those of 16 hosts on each of 60 ports.
-const SESSIONS: usize = 960;
 
 /// A book with its lanes and workers, between two phases. It is not Drop, since a book is not: end
 /// it by `end`, or by `give_up` where there is no memory.

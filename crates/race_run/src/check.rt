@@ -9,9 +9,9 @@ ghost use Rattle.trace_defs.specs.Output.{line_feed};
 ghost use Rattle.race_run.specs.declared.ending.Ending.TheVariants.{ReadFault, WriteFault};
 ghost use Rattle.race_run.specs.Counts.{CountEnds};
 
+use wire_core::append;
 use crate::counter::Counter;
 use crate::ending::Ending;
-use crate::refusal::append;
 use crate::run::run_within;
 use arrayvec::ArrayVec;
 use outside_core::{Failed, Sink, Source};
@@ -58,10 +58,10 @@ fn counts_line(counter: Counter) -> ArrayVec<u8, 64>
 {
     let mut digits = itoa::Buffer::new();
     let mut line = ArrayVec::new();
-    append(&mut line, b"ok ");
-    append(&mut line, digits.format(counter.records).as_bytes());
-    append(&mut line, b" ");
-    append(&mut line, digits.format(counter.controls).as_bytes());
-    append(&mut line, b"\n");
+    append(b"ok ", &mut line);
+    append(digits.format(counter.records).as_bytes(), &mut line);
+    append(b" ", &mut line);
+    append(digits.format(counter.controls).as_bytes(), &mut line);
+    append(b"\n", &mut line);
     line
 }

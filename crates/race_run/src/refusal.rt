@@ -5,6 +5,7 @@ ghost use Rattle.trace_defs.specs.Reason.{reason_name as name_of};
 ghost use Rattle.outside_text.specs.Streams.{Says};
 ghost use Rattle.race_run.specs.Ending.{ending_text};
 
+use wire_core::append;
 use crate::ending::{Ending, status};
 use arrayvec::ArrayVec;
 use outside_core::Sink;
@@ -44,11 +45,11 @@ pub fn refusal_words(line: u64, why: u8) -> ArrayVec<u8, 64>
 {
     let mut digits = itoa::Buffer::new();
     let mut out = ArrayVec::new();
-    append(&mut out, b"line ");
-    append(&mut out, digits.format(line).as_bytes());
-    append(&mut out, b": ");
-    append(&mut out, reason_name(why));
-    append(&mut out, b"\n");
+    append(b"line ", &mut out);
+    append(digits.format(line).as_bytes(), &mut out);
+    append(b": ", &mut out);
+    append(reason_name(why), &mut out);
+    append(b"\n", &mut out);
     out
 }
 
@@ -72,11 +73,4 @@ fn reason_name(why: u8) -> &'static [u8]
         13 => b"missing",
         _ => b"",
     }
-}
-
-pub(crate) fn append(out: &mut ArrayVec<u8, 64>, piece: &[u8])
-    requires { length out.old.items + length piece.now ≤ 64 }
-    ensures { out.new.items ≡ out.old.items ++ piece.now }
-{
-    let _fits = out.try_extend_from_slice(piece);
 }

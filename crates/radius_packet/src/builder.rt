@@ -7,7 +7,7 @@ ghost use Rattle.radius_defs.specs.declared.limit.TheConstants.{HEADER_OCTETS, M
 use arrayvec::ArrayVec;
 use radius_defs::limit::{MOST_OCTETS, MOST_VALUE};
 use std::marker::Model;
-use wire_core::{Room, two_octets};
+use wire_core::{Room, append, two_octets};
 
 /// A packet that is being built. Its octets are a whole packet at each moment. Contracts see its
 /// code, identifier, authenticator and list of attributes.
@@ -53,7 +53,7 @@ impl Builder {
         ensures { self.new ≡ other.now }
     {
         self.octets.clear();
-        append(&mut self.octets, other.octets.as_slice());
+        append(other.octets.as_slice(), &mut self.octets);
     }
 
     /// Puts an attribute at the end. Room where its value has more than 253 octets or the packet
@@ -69,8 +69,8 @@ impl Builder {
         if value.len() > MOST_VALUE || length > MOST_OCTETS {
             return Err(Room);
         }
-        append(&mut self.octets, &[ty, value.len() as u8 + 2]);
-        append(&mut self.octets, value);
+        append(&[ty, value.len() as u8 + 2], &mut self.octets);
+        append(value, &mut self.octets);
         overwrite(&mut self.octets, 2, &two_octets(length as u16));
         Ok(())
     }
@@ -120,16 +120,8 @@ fn write_header(out: &mut ArrayVec<u8, MOST_OCTETS>, code: u8, id: u8, auth: [u8
     ensures { out.new.items ≡ code ∷ id ∷ 0 ∷ 20 ∷ auth }
 {
     out.clear();
-    append(out, &[code, id, 0, 20]);
-    append(out, &auth);
-}
-
-// Appends octets for which there is room.
-pub(crate) fn append(out: &mut ArrayVec<u8, MOST_OCTETS>, octets: &[u8])
-    requires { array_vec_len out.old + length octets.now ≤ MOST_OCTETS }
-    ensures { out.new.items ≡ out.old.items ++ octets.now }
-{
-    let _ = out.try_extend_from_slice(octets);
+    append(&[code, id, 0, 20], out);
+    append(&auth, out);
 }
 
 // Writes octets over those that stand from `at` on.

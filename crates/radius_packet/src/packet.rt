@@ -8,8 +8,8 @@ ghost use Rattle.radius_defs.specs.declared.attribute.TheConstants.{EAP_MESSAGE}
 ghost use Rattle.radius_defs.specs.declared.limit.TheConstants.{MOST_VALUE};
 ghost use Rattle.radius_packet.specs.Views.{attribute, value_in};
 
+use wire_core::append;
 use crate::attributes::{Attributes, broken_at};
-use crate::builder::append;
 use arrayvec::ArrayVec;
 use radius_defs::RadDrop;
 use radius_defs::attribute::EAP_MESSAGE;
@@ -129,7 +129,7 @@ impl<'a> Packet<'a> {
         let mut is_there = false;
         for (kind, value) in self.attributes() {
             if kind == EAP_MESSAGE {
-                append(out, value);
+                append(value, out);
                 is_there = true;
             }
         }

@@ -6,17 +6,12 @@ ghost use Rattle.std.specs.Option.Follows.{option_follows_value};
 ghost use Rattle.std.specs.Borrow.{sem};
 ghost use Rattle.session_table.specs.Slots.{IsTable, IsTakenFor, count_on, is_other, is_port, key_at, place_for, places_of, value_at};
 
-use crate::port::{HOSTS, count_in, find_in, free_in};
+use switch_event::limit::{HOSTS_A_PORT, PORTS, SESSIONS};
+use crate::port::{count_in, find_in, free_in};
 use arrayvec::ArrayVec;
 use std::alloc::{AllocError, Global};
 use std::marker::Model;
 use wire_core::Mac;
-
-/// How many ports there are; their numbers start at 1.
-const PORTS: u8 = 60;
-
-/// How many places there are: sixteen on each port.
-const PLACES: usize = 960;
 
 /// A seventeenth host on a port.
 #[derive(Clone, Copy, Debug, PartialEq, Eq)]
@@ -44,7 +39,7 @@ pub struct Slots<T> {
     /// What is held for it, at the same place.
     values: Vec<Option<T>>,
     /// The places at which something is held, in the order in which they were taken.
-    order: ArrayVec<u16, 960>,
+    order: ArrayVec<u16, SESSIONS>,
 }
 
 impl<T> Model for Slots<T> {
@@ -83,10 +78,10 @@ impl<T: Drop> Slots<T> {
         ensures table { IsTable self.now }
     {
         let hosts = self.hosts.as_slice();
-        if port == 0 || port > PORTS {
+        if port == 0 || usize::from(port) > PORTS {
             return None;
         }
-        find_in(hosts, HOSTS * usize::from(port - 1), mac)
+        find_in(hosts, HOSTS_A_PORT * usize::from(port - 1), mac)
     }
 
     /// How many hosts are held on a port, 16 at most.
@@ -95,10 +90,10 @@ impl<T: Drop> Slots<T> {
         ensures most { result ≤ 16 }
     {
         let hosts = self.hosts.as_slice();
-        if port == 0 || port > PORTS {
+        if port == 0 || usize::from(port) > PORTS {
             return 0;
         }
-        count_in(hosts, HOSTS * usize::from(port - 1))
+        count_in(hosts, HOSTS_A_PORT * usize::from(port - 1))
     }
 
     /// Holds a value for an address on a port, 1 to 60, that has none there, and gives its place: it
@@ -115,7 +110,7 @@ impl<T: Drop> Slots<T> {
         ensures same { OnErr result (self.new ≡ self.old) }
         ensures table { IsTable self.new }
     {
-        let first = HOSTS * usize::from(port - 1);
+        let first = HOSTS_A_PORT * usize::from(port - 1);
         let Some(at) = free_in(self.hosts.as_slice(), first) else {
             return Err(PortFull);
         };
@@ -193,7 +188,7 @@ impl<T: Drop> Slots<T> {
         ensures { result ≡ key_at at self.now }
     {
         let mac = held(self.hosts.as_slice(), at)?;
-        Some(((at / HOSTS + 1) as u8, *mac))
+        Some(((at / HOSTS_A_PORT + 1) as u8, *mac))
     }
 }
 
@@ -217,7 +212,7 @@ fn copy_values<T: CopyFrom + Drop>(values: &mut [Option<T>], other: &[Option<T>]
     requires others { length other.now ≡ 960 }
     ensures { values.new ≡ other.now }
 {
-    for at in 0..PLACES {
+    for at in 0..SESSIONS {
         copy_value(&mut values[at], &other[at]);
     }
 }
@@ -236,7 +231,7 @@ fn copy_value<T: CopyFrom + Drop>(value: &mut Option<T>, other: &Option<T>)
 }
 
 // From now on it is the other order.
-fn copy_order(order: &mut ArrayVec<u16, 960>, other: &[u16])
+fn copy_order(order: &mut ArrayVec<u16, SESSIONS>, other: &[u16])
     requires { length other.now ≤ 960 }
     ensures { order.new.items ≡ other.now }
 {
@@ -250,8 +245,8 @@ fn copy_order(order: &mut ArrayVec<u16, 960>, other: &[u16])
 fn nothing<U: Drop>(alloc: Global) -> Result<Vec<Option<U>>, AllocError>
     ensures { IfOk result (λ v. v.items ≡ replicate 960 None) }
 {
-    let mut places = Vec::with_capacity(alloc, PLACES)?;
-    for _ in 0..PLACES {
+    let mut places = Vec::with_capacity(alloc, SESSIONS)?;
+    for _ in 0..SESSIONS {
         places.push(None)?;
     }
     Ok(places)

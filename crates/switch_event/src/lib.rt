@@ -4,6 +4,7 @@
 mod config;
 mod decision;
 mod event;
+pub mod limit;
 mod sent;
 
 pub use config::{Client, Config, Nas, PortConf};

@@ -2,6 +2,7 @@
 
 ghost use Rattle.std.specs.Prelude.{◌≡◌};
 
+use wire_core::fill;
 use arrayvec::ArrayVec;
 use machine_vars::Vars;
 
@@ -65,11 +66,4 @@ pub(crate) fn copy_vars(to: &mut Vars, from: &Vars)
     fill(&mut to.last_req_data, &from.last_req_data);
     fill(&mut to.aaa_eap_req_data, &from.aaa_eap_req_data);
     fill(&mut to.identity, &from.identity);
-}
-
-fn fill<const N: usize>(to: &mut ArrayVec<u8, N>, from: &ArrayVec<u8, N>)
-    ensures { to.new ≡ from.now }
-{
-    to.clear();
-    let _fits = to.try_extend_from_slice(from.as_slice());
 }

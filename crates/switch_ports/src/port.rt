@@ -4,12 +4,13 @@ ghost use Rattle.std.specs.Prelude.{◌≡◌, ◌==◌, ◌&&◌, ◌≤◌, �
 ghost use Rattle.machine_defs.specs.BackendTable.{is_auto};
 ghost use Rattle.machine_defs.specs.Live.{Live, Ready, InRange, Greeting, set, fresh};
 ghost use Rattle.wire_defs.specs.Ethernet.{pae_group};
-ghost use Rattle.out_tray.specs.Tray.{spare};
+ghost use Rattle.out_tray.specs.Tray.{spare, turn_room};
 ghost use Rattle.switch_defs.specs.Switch.{opened_port, port_address as address_of};
 ghost use Rattle.switch_defs.specs.Turn.{guest_second};
 ghost use Rattle.table_defs.proofs.Told.{opens};
 ghost use Rattle.switch_ports.specs.Ports.{IsForced, settled_to, with_said};
 
+use wire_defs::PAE_GROUP;
 use crate::copy::copy_vars;
 use machine_vars::{Control, Times, Vars};
 use out_tray::Tray;
@@ -17,9 +18,6 @@ use port_machine::{fresh, greet, settle, to_all};
 use std::marker::Model;
 use switch_event::{Config, PortConf};
 use wire_core::Mac;
-
-// The group address of all port access entities (IEEE Std 802.1X-2004, 7.8).
-const PAE_GROUP: Mac = Mac([0x01, 0x80, 0xc2, 0x00, 0x00, 0x03]);
 
 /// A configured port.
 #[derive(Drop)]
@@ -67,7 +65,7 @@ impl PortState {
             forced: fresh(
                 conf.port,
                 port_address(c.bridge, conf.port),
-                PAE_GROUP,
+                Mac(PAE_GROUP),
                 conf.control,
                 &c.times,
             ),
@@ -150,7 +148,7 @@ impl PortState {
     /// A host of this address begins on the forced port.
     pub(crate) fn greet(&mut self, from: Mac, tray: &mut Tray)
         requires forced { IsForced self.old }
-        requires room { 80000 ≤ spare tray.old }
+        requires room { turn_room ≤ spare tray.old }
         ensures port { self.new ≡ settled_to (set (Greeting from.0) self.old.forced) self.old }
         ensures sent { tray.new ≡ with_said (set (Greeting from.0) self.old.forced) tray.old }
         ensures room { spare tray.old ≤ spare tray.new + 72098 }
@@ -163,21 +161,21 @@ impl PortState {
     pub(crate) fn begin(&mut self, own: Mac, control: Control, times: &Times, tray: &mut Tray)
         requires forced { is_auto control ≡ false }
         requires times { InRange times.now }
-        requires room { 80000 ≤ spare tray.old }
+        requires room { turn_room ≤ spare tray.old }
         ensures port { let v = fresh self.old.conf.port own.0 pae_group control times.now in
             self.new ≡ settled_to v self.old }
         ensures sent { let v = fresh self.old.conf.port own.0 pae_group control times.now in
             tray.new ≡ with_said v tray.old }
         ensures room { spare tray.old ≤ spare tray.new + 72098 }
     {
-        self.forced = fresh(self.conf.port, own, PAE_GROUP, control, times);
+        self.forced = fresh(self.conf.port, own, Mac(PAE_GROUP), control, times);
         self.settle(tray);
     }
 
     fn settle(&mut self, tray: &mut Tray)
         requires ready { Ready self.old.forced }
         requires forced { is_auto self.old.forced.port_control ≡ false }
-        requires room { 80000 ≤ spare tray.old }
+        requires room { turn_room ≤ spare tray.old }
         ensures port { self.new ≡ settled_to self.old.forced self.old }
         ensures sent { tray.new ≡ with_said self.old.forced tray.old }
         ensures room { spare tray.old ≤ spare tray.new + 72098 }

@@ -5,7 +5,7 @@ ghost use Rattle.std.specs.List.{list_any};
 ghost use Rattle.machine_defs.specs.BackendTable.{is_auto};
 ghost use Rattle.machine_defs.specs.Live.{InRange, Greeting, set, fresh};
 ghost use Rattle.wire_defs.specs.Ethernet.{pae_group};
-ghost use Rattle.out_tray.specs.Tray.{spare};
+ghost use Rattle.out_tray.specs.Tray.{spare, turn_room};
 ghost use Rattle.switch_event.specs.Config.{are_ports, is_valid};
 ghost use Rattle.table_defs.specs.Change.{item_of};
 ghost use Rattle.switch_defs.specs.Switch.{Port, Session, is_port, on_port, opened_port};
@@ -148,7 +148,7 @@ impl Ports {
     /// (IEEE Std 802.1X-2004, 8.2.4). It may take 72,098 octets of the tray, of which 80,000 are spare.
     pub fn greet(&mut self, n: u8, from: Mac, tray: &mut Tray)
         requires forced { (q : Port) × (find (is_port n) self.old ≡ Some q) × IsForced q }
-        requires room { 80000 ≤ spare tray.old }
+        requires room { turn_room ≤ spare tray.old }
         ensures ports { (q : Port) → find (is_port n) self.old ≡ Some q →
             self.new ≡ settled_at n (set (Greeting from.0) q.forced) self.old }
         ensures sent { (q : Port) → find (is_port n) self.old ≡ Some q →
@@ -167,7 +167,7 @@ impl Ports {
         requires there { is_some (find (is_port n) self.old) ≡ true }
         requires forced { is_auto control ≡ false }
         requires times { InRange times.now }
-        requires room { 80000 ≤ spare tray.old }
+        requires room { turn_room ≤ spare tray.old }
         ensures ports { self.new ≡ settled_at n (fresh n own.0 pae_group control times.now) self.old }
         ensures sent { tray.new ≡ with_said (fresh n own.0 pae_group control times.now) tray.old }
         ensures room { spare tray.old ≤ spare tray.new + 72098 }

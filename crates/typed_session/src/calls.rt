@@ -1,7 +1,7 @@
 ghost use Rattle.std.specs.Prelude.{◌≡◌, ◌≤◌, ◌+◌, length, false, true};
 ghost use Rattle.machine_vars.specs.declared.vars.Vars.{Vars as Values};
 ghost use Rattle.machine_defs.specs.Live.{Start as Begin, Logoff, Packet, Notice, Second, cleared};
-ghost use Rattle.out_tray.specs.Tray.{spare};
+ghost use Rattle.out_tray.specs.Tray.{answer_room, frame_room, spare};
 ghost use Rattle.typed_session.specs.Stands.{Stands};
 ghost use Rattle.typed_session.specs.Moves.{kept_by, kept_in};
 ghost use Rattle.typed_session.specs.Reads.{ShowsIdentity, ShowsResponse, wants_of, is_server, is_held, IsTold, IsHeld};
@@ -26,20 +26,20 @@ impl Host {
     /// The host begins, or begins anew (IEEE Std 802.1X-2004, 7.5.4). It may take 1,534 octets of
     /// the tray, which must be spare.
     pub fn on_start(&mut self, tray: &mut Tray)
-        requires { 1534 ≤ spare tray.old }
+        requires { frame_room ≤ spare tray.old }
         ensures follows { Follows Begin self.old self.new tray.old tray.new }
         ensures cares { Cares Begin self.old self.new }
-        ensures room { spare tray.old ≤ spare tray.new + 1534 }
+        ensures room { spare tray.old ≤ spare tray.new + frame_room }
     {
         start(self, tray);
     }
 
     /// The host logs off. It may take 1,534 octets of the tray, which must be spare.
     pub fn on_logoff(&mut self, tray: &mut Tray)
-        requires { 1534 ≤ spare tray.old }
+        requires { frame_room ≤ spare tray.old }
         ensures follows { Follows Logoff self.old self.new tray.old tray.new }
         ensures cares { Cares Logoff self.old self.new }
-        ensures room { spare tray.old ≤ spare tray.new + 1534 }
+        ensures room { spare tray.old ≤ spare tray.new + frame_room }
     {
         log_off(self, tray);
     }
@@ -59,10 +59,10 @@ impl Host {
     /// take 3,068 octets of the tray, which must be spare: those of two frames.
     pub fn on_server(&mut self, v: &Verdict<'_>, tray: &mut Tray)
         requires told { IsTold v.now }
-        requires room { 3068 ≤ spare tray.old }
+        requires room { answer_room ≤ spare tray.old }
         ensures follows { FollowsWord v.now self.old self.new tray.old tray.new }
         ensures cares { Cares Notice self.old self.new }
-        ensures room { spare tray.old ≤ spare tray.new + 3068 }
+        ensures room { spare tray.old ≤ spare tray.new + answer_room }
     {
         tell(self, v, tray);
     }
@@ -70,10 +70,10 @@ impl Host {
     /// A second goes by; `gave_up`: in it the server is given up. It may take 1,534 octets of the
     /// tray, which must be spare.
     pub fn on_second(&mut self, gave_up: bool, tray: &mut Tray)
-        requires { 1534 ≤ spare tray.old }
+        requires { frame_room ≤ spare tray.old }
         ensures follows { Follows (Second gave_up) self.old self.new tray.old tray.new }
         ensures cares { Cares (Second gave_up) self.old self.new }
-        ensures room { spare tray.old ≤ spare tray.new + 1534 }
+        ensures room { spare tray.old ≤ spare tray.new + frame_room }
     {
         second(self, gave_up, tray);
     }

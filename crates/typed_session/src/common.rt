@@ -1,7 +1,7 @@
 ghost use Rattle.std.specs.Prelude.{◌≡◌, ◌≤◌, ◌+◌, [], ◌∷◌, length};
 ghost use Rattle.machine_defs.specs.EapTable.{next_id};
 ghost use Rattle.machine_defs.specs.Live.{as_octets};
-ghost use Rattle.out_tray.specs.Tray.{spare};
+ghost use Rattle.out_tray.specs.Tray.{frame_room, spare};
 ghost use Rattle.typed_session.specs.Moves.{dropped};
 ghost use Rattle.typed_session.specs.Follows.{frames_from, with_sent};
 
@@ -42,9 +42,9 @@ impl Common {
     // Sends an EAP packet to the host.
     pub(crate) fn send(&self, eap: &[u8], tray: &mut Tray)
         requires short { length eap.now ≤ 1500 }
-        requires spare { 1534 ≤ spare tray.old }
+        requires spare { frame_room ≤ spare tray.old }
         ensures sent { tray.new ≡ with_sent (frames_from self.now (eap.now ∷ [])) tray.old }
-        ensures room { spare tray.old ≤ spare tray.new + 1534 }
+        ensures room { spare tray.old ≤ spare tray.new + frame_room }
     {
         eap_frames::put(self.port, Mac(self.own), Mac(self.peer), eap, tray);
     }

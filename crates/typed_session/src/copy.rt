@@ -1,15 +1,9 @@
 ghost use Rattle.std.specs.Prelude.{◌≡◌};
 
+use wire_core::fill;
 use crate::common::octets;
 use crate::host::{Admitted, Asked, Closed, Common, Host, Lapsed, Refused, Served};
 use arrayvec::ArrayVec;
-
-fn fill<const N: usize>(to: &mut ArrayVec<u8, N>, from: &ArrayVec<u8, N>)
-    ensures { to.new ≡ from.now }
-{
-    to.clear();
-    let _fits = to.try_extend_from_slice(from.as_slice());
-}
 
 impl Common {
     fn copy_from(&mut self, other: &Common)

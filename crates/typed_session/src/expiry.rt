@@ -1,5 +1,5 @@
 ghost use Rattle.std.specs.Prelude.{◌≡◌, ◌≤◌, ◌<◌, ◌+◌, nat_lt, [], ◌∷◌, false};
-ghost use Rattle.out_tray.specs.Tray.{spare};
+ghost use Rattle.out_tray.specs.Tray.{frame_room, spare};
 ghost use Rattle.typed_session.specs.Seconds.{after_second, again_by, heeded, lapsed_by, once_more};
 ghost use Rattle.typed_session.specs.Follows.{Says, frames_from, with_sent};
 
@@ -21,11 +21,11 @@ impl Asked {
     // The request is sent again.
     fn send_again(&mut self, tray: &mut Tray)
         requires few { self.old.sent < 3 }
-        requires spare { 1534 ≤ spare tray.old }
+        requires spare { frame_room ≤ spare tray.old }
         ensures asked { self.new ≡ once_more self.old }
         ensures sent { tray.new
             ≡ with_sent (frames_from self.old.common (self.old.request.items ∷ [])) tray.old }
-        ensures room { spare tray.old ≤ spare tray.new + 1534 }
+        ensures room { spare tray.old ≤ spare tray.new + frame_room }
     {
         self.common.send(self.request.as_slice(), tray);
         self.sent += 1;
@@ -45,10 +45,10 @@ fn heed(host: &mut Host)
 
 // The request is sent again, the fourth time no more.
 fn ask_again(host: &mut Host, tray: &mut Tray)
-    requires { 1534 ≤ spare tray.old }
+    requires { frame_room ≤ spare tray.old }
     ensures host { host.new ≡ (again_by host.old).host }
     ensures sent { Says host.old (again_by host.old) tray.old tray.new }
-    ensures room { spare tray.old ≤ spare tray.new + 1534 }
+    ensures room { spare tray.old ≤ spare tray.new + frame_room }
 {
     match host {
         Host::Request(a) => {
@@ -92,10 +92,10 @@ fn lapse(host: &mut Host)
 // A second after which the host may be in another state, or is sent something; `gave_up`: in it the
 // server is given up.
 pub(crate) fn expire(host: &mut Host, gave_up: bool, tray: &mut Tray)
-    requires { 1534 ≤ spare tray.old }
+    requires { frame_room ≤ spare tray.old }
     ensures host { host.new ≡ (after_second gave_up host.old).host }
     ensures sent { Says host.old (after_second gave_up host.old) tray.old tray.new }
-    ensures room { spare tray.old ≤ spare tray.new + 1534 }
+    ensures room { spare tray.old ≤ spare tray.new + frame_room }
 {
     match host {
         Host::Request(a) => {

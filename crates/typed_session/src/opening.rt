@@ -2,7 +2,7 @@ ghost use Rattle.std.specs.Prelude.{◌≡◌, ◌≤◌, ◌+◌, false};
 ghost use Rattle.machine_vars.specs.declared.control.Control.TheVariants.{Auto};
 ghost use Rattle.machine_defs.specs.Live.{InRange, fresh};
 ghost use Rattle.settle_defs.specs.Settle.{settled};
-ghost use Rattle.out_tray.specs.Tray.{spare};
+ghost use Rattle.out_tray.specs.Tray.{frame_room, spare};
 ghost use Rattle.typed_session.specs.Stands.{opening};
 ghost use Rattle.typed_session.specs.Moves.{first_round};
 ghost use Rattle.typed_session.specs.Cares.{Begins};
@@ -20,19 +20,19 @@ use wire_core::Mac;
 /// the tray spare, which the frame may take. No memory.
 pub fn open(port: u8, own: Mac, peer: Mac, t: &Times, tray: &mut Tray) -> Host
     requires times { InRange t.now }
-    requires room { 1534 ≤ spare tray.old }
+    requires room { frame_room ≤ spare tray.old }
     ensures opens { EndsIn (settled (fresh port own.0 peer.0 Auto t.now)) result tray.old tray.new }
     ensures begins { Begins result }
-    ensures room { spare tray.old ≤ spare tray.new + 1534 }
+    ensures room { spare tray.old ≤ spare tray.new + frame_room }
 {
     begin(port, own, peer, t, tray)
 }
 
 fn begin(port: u8, own: Mac, peer: Mac, t: &Times, tray: &mut Tray) -> Host
-    requires { 1534 ≤ spare tray.old }
+    requires { frame_room ≤ spare tray.old }
     ensures host { result ≡ (first_round (opening port own.0 peer.0 t.now)).host }
     ensures sent { OpensFrom (opening port own.0 peer.0 t.now) tray.old tray.new }
-    ensures room { spare tray.old ≤ spare tray.new + 1534 }
+    ensures room { spare tray.old ≤ spare tray.new + frame_room }
 {
     let mut host = Host::Request(blank(opening(port, own, peer, t)));
     new_round(&mut host, false, false, false, 0, tray);

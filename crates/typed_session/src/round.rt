@@ -1,5 +1,5 @@
 ghost use Rattle.std.specs.Prelude.{◌≡◌, ◌≤◌, ◌<◌, ◌+◌, ◌^◌, false};
-ghost use Rattle.out_tray.specs.Tray.{spare};
+ghost use Rattle.out_tray.specs.Tray.{frame_room, spare};
 ghost use Rattle.typed_session.specs.Moves.{asked_anew, asked_by, end_by, identity_asked, is_tired, kept_by, round_by};
 ghost use Rattle.typed_session.specs.Follows.{SaysBy, SaysFrom};
 
@@ -12,11 +12,11 @@ use out_tray::Tray;
 impl Asked {
     // The identity is asked for, under the identifier after `id`.
     fn ask_identity(&mut self, id: u8, status: bool, tries: u32, tray: &mut Tray)
-        requires { 1534 ≤ spare tray.old }
+        requires { frame_room ≤ spare tray.old }
         ensures asked { self.new ≡ asked_anew (record self.old.common { id = id }) status tries }
         ensures sent { SaysFrom self.old.common
             (identity_asked (record self.old.common { id = id }) status tries) tray.old tray.new }
-        ensures room { spare tray.old ≤ spare tray.new + 1534 }
+        ensures room { spare tray.old ≤ spare tray.new + frame_room }
     {
         let id = next_id(id);
         let packet = [1, id, 0, 5, 1];
@@ -53,11 +53,11 @@ pub(crate) fn blank(common: Common) -> Asked
 // The identity is asked for, under the identifier after `id`. A host that was asked before is changed
 // in place, without a value of its size.
 fn ask_identity(host: &mut Host, id: u8, status: bool, tries: u32, tray: &mut Tray)
-    requires { 1534 ≤ spare tray.old }
+    requires { frame_room ≤ spare tray.old }
     ensures host { host.new ≡ (asked_by (kept_by host.old) id status tries host.old).host }
     ensures sent { SaysBy (kept_by host.old) (asked_by (kept_by host.old) id status tries host.old)
         tray.old tray.new }
-    ensures room { spare tray.old ≤ spare tray.new + 1534 }
+    ensures room { spare tray.old ≤ spare tray.new + frame_room }
 {
     match host {
         Host::Request(a) => a.ask_identity(id, status, tries, tray),
@@ -67,11 +67,11 @@ fn ask_identity(host: &mut Host, id: u8, status: bool, tries: u32, tray: &mut Tr
 
 // The same, from another state.
 fn ask_other(host: &mut Host, id: u8, status: bool, tries: u32, tray: &mut Tray)
-    requires { 1534 ≤ spare tray.old }
+    requires { frame_room ≤ spare tray.old }
     ensures host { host.new ≡ (asked_by (kept_by host.old) id status tries host.old).host }
     ensures sent { SaysBy (kept_by host.old) (asked_by (kept_by host.old) id status tries host.old)
         tray.old tray.new }
-    ensures room { spare tray.old ≤ spare tray.new + 1534 }
+    ensures room { spare tray.old ≤ spare tray.new + frame_room }
 {
     if let Some(common) = common(host) {
         let mut asked = blank(common.copy());
@@ -113,12 +113,12 @@ pub(crate) fn new_round(
     tries: u32,
     tray: &mut Tray,
 )
-    requires { 1534 ≤ spare tray.old }
+    requires { frame_room ≤ spare tray.old }
     ensures host { host.new
         ≡ (round_by (kept_by host.old) status start logoff tries host.old).host }
     ensures sent { SaysBy (kept_by host.old)
         (round_by (kept_by host.old) status start logoff tries host.old) tray.old tray.new }
-    ensures room { spare tray.old ≤ spare tray.new + 1534 }
+    ensures room { spare tray.old ≤ spare tray.new + frame_room }
 {
     let Some(common) = common(host) else {
         return;

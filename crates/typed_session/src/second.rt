@@ -1,5 +1,5 @@
 ghost use Rattle.std.specs.Prelude.{◌≡◌, ◌≤◌, ◌+◌, not, true, false};
-ghost use Rattle.out_tray.specs.Tray.{spare};
+ghost use Rattle.out_tray.specs.Tray.{frame_room, spare};
 ghost use Rattle.typed_session.specs.Seconds.{Ticks, after_second, fallen, is_due, is_idle, is_still, time_left, wound};
 ghost use Rattle.typed_session.specs.Follows.{Says};
 
@@ -126,10 +126,10 @@ fn tick(host: &mut Host, gave_up: bool) -> bool
 
 // A second goes by; `gave_up`: in it the server is given up.
 pub(crate) fn second(host: &mut Host, gave_up: bool, tray: &mut Tray)
-    requires { 1534 ≤ spare tray.old }
+    requires { frame_room ≤ spare tray.old }
     ensures host { host.new ≡ (after_second gave_up host.old).host }
     ensures sent { Says host.old (after_second gave_up host.old) tray.old tray.new }
-    ensures room { spare tray.old ≤ spare tray.new + 1534 }
+    ensures room { spare tray.old ≤ spare tray.new + frame_room }
 {
     if !tick(host, gave_up) {
         expire(host, gave_up, tray);

@@ -1,5 +1,5 @@
 ghost use Rattle.std.specs.Prelude.{◌≡◌, ◌≤◌, ◌<◌, ◌+◌, length};
-ghost use Rattle.out_tray.specs.Tray.{spare};
+ghost use Rattle.out_tray.specs.Tray.{answer_room, frame_room, spare};
 ghost use Rattle.typed_session.specs.Moves.{admitted_by, after_accept, after_challenge, after_notice, after_reject, asked_on_by, from_server, kept_by, shut_out_by, waiting_again, waiting_by};
 ghost use Rattle.typed_session.specs.Follows.{Says};
 
@@ -48,10 +48,10 @@ fn ask_on(host: &mut Host, eap: &[u8], wait: u32)
 pub(crate) fn challenge(host: &mut Host, eap: &[u8], wait: u32, tray: &mut Tray)
     requires long { 2 ≤ length eap.now }
     requires short { length eap.now ≤ 1500 }
-    requires spare { 1534 ≤ spare tray.old }
+    requires spare { frame_room ≤ spare tray.old }
     ensures host { host.new ≡ (after_challenge eap.now wait host.old).host }
     ensures sent { Says host.old (after_challenge eap.now wait host.old) tray.old tray.new }
-    ensures room { spare tray.old ≤ spare tray.new + 1534 }
+    ensures room { spare tray.old ≤ spare tray.new + frame_room }
 {
     match host {
         Host::Request(a) => a.method = wait,
@@ -122,10 +122,10 @@ fn let_in(host: &mut Host)
 // was not asked only the times are taken over.
 pub(crate) fn accept(host: &mut Host, eap: &[u8], again: bool, period: u32, tray: &mut Tray)
     requires short { length eap.now ≤ 1500 }
-    requires spare { 3068 ≤ spare tray.old }
+    requires spare { answer_room ≤ spare tray.old }
     ensures host { host.new ≡ (after_accept eap.now again period host.old).host }
     ensures sent { Says host.old (after_accept eap.now again period host.old) tray.old tray.new }
-    ensures room { spare tray.old ≤ spare tray.new + 3068 }
+    ensures room { spare tray.old ≤ spare tray.new + answer_room }
 {
     if let Host::Server(a) = host {
         a.common.send(eap, tray);
@@ -159,10 +159,10 @@ fn shut_out(host: &mut Host)
 // The server refuses.
 pub(crate) fn refuse(host: &mut Host, eap: &[u8], tray: &mut Tray)
     requires short { length eap.now ≤ 1500 }
-    requires spare { 1534 ≤ spare tray.old }
+    requires spare { frame_room ≤ spare tray.old }
     ensures host { host.new ≡ (after_reject eap.now host.old).host }
     ensures sent { Says host.old (after_reject eap.now host.old) tray.old tray.new }
-    ensures room { spare tray.old ≤ spare tray.new + 1534 }
+    ensures room { spare tray.old ≤ spare tray.new + frame_room }
 {
     if let Host::Server(a) = host {
         a.common.send(eap, tray);

@@ -1,5 +1,5 @@
 ghost use Rattle.std.specs.Prelude.{◌≡◌, ◌≤◌, ◌+◌};
-ghost use Rattle.out_tray.specs.Tray.{spare};
+ghost use Rattle.out_tray.specs.Tray.{frame_room, spare};
 ghost use Rattle.typed_session.specs.Moves.{after_start};
 ghost use Rattle.typed_session.specs.Follows.{Says};
 
@@ -9,10 +9,10 @@ use out_tray::Tray;
 
 // The host begins, or begins anew.
 pub(crate) fn start(host: &mut Host, tray: &mut Tray)
-    requires { 1534 ≤ spare tray.old }
+    requires { frame_room ≤ spare tray.old }
     ensures host { host.new ≡ (after_start host.old).host }
     ensures sent { Says host.old (after_start host.old) tray.old tray.new }
-    ensures room { spare tray.old ≤ spare tray.new + 1534 }
+    ensures room { spare tray.old ≤ spare tray.new + frame_room }
 {
     match host {
         Host::Request(a) => {

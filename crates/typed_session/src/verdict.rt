@@ -1,5 +1,5 @@
 ghost use Rattle.std.specs.Prelude.{◌≡◌, ◌≤◌, ◌+◌};
-ghost use Rattle.out_tray.specs.Tray.{spare};
+ghost use Rattle.out_tray.specs.Tray.{answer_room, spare};
 ghost use Rattle.typed_session.specs.Reads.{after_verdict, IsTold};
 ghost use Rattle.typed_session.specs.Follows.{Says};
 
@@ -14,10 +14,10 @@ use out_tray::Tray;
 // Failure of EAP (RFC 3748, 4.2).
 pub(crate) fn tell(host: &mut Host, word: &Verdict<'_>, tray: &mut Tray)
     requires word { IsTold word.now }
-    requires spare { 3068 ≤ spare tray.old }
+    requires spare { answer_room ≤ spare tray.old }
     ensures host { host.new ≡ (after_verdict word.now host.old).host }
     ensures sent { Says host.old (after_verdict word.now host.old) tray.old tray.new }
-    ensures room { spare tray.old ≤ spare tray.new + 3068 }
+    ensures room { spare tray.old ≤ spare tray.new + answer_room }
 {
     let Some(known) = known(host) else {
         return;

@@ -2,6 +2,17 @@
 //! above cite. The definitions stand in specs/; here are the plain enums that they speak of.
 #![tactic(auto)]
 
+/// The group address to which port access entities listen (IEEE Std 802.1X-2004, 7.8).
+pub const PAE_GROUP: [u8; 6] = [0x01, 0x80, 0xc2, 0x00, 0x00, 0x03];
+
+/// The types of Ethernet frames.
+pub mod ethertype {
+    /// EAPOL (IEEE Std 802.1X-2004, 7.2).
+    pub const EAPOL: u16 = 0x888e;
+    /// The tag of a VLAN (IEEE Std 802.1Q, 9.6).
+    pub const VLAN_TAG: u16 = 0x8100;
+}
+
 /// Why octets are no Ethernet frame.
 #[derive(Clone, Copy, Debug, PartialEq, Eq)]
 pub enum EthDrop {

@@ -1,5 +1,5 @@
 use Rattle.std.proofs.Common.{◌≡◌, ◌-◌, ◌+◌, ◌*◌, ◌≤◌}
-use Rattle.out_tray.specs.Tray.{spare}
+use Rattle.out_tray.specs.Tray.{spare, frame_room}
 use Rattle.port_machine.proofs.Loop.{Under}
 use Rattle.port_machine.proofs.settling.settle.Given as goal
 
@@ -7,7 +7,7 @@ abbrev pub invariant-rows : goal.invariant-rows
 invariant-rows l = record {
   under : Under l.fn.v l.v l.rows l.fn.tray.items l.tray.items;
   sessions : l.tray.sessions ≡ l.fn.tray.sessions;
-  room : spare l.fn.tray ≤ spare l.tray + 1534 * l.rows;
+  room : spare l.fn.tray ≤ spare l.tray + frame_room * l.rows;
 }
 
 abbrev pub decreases-rows : goal.decreases-rows
