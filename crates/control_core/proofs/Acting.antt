@@ -11,7 +11,8 @@ use Rattle.wire_core.specs.declared.address.Addr.{Addr}
 use Rattle.switch_defs.specs.Switch.{Host, Session, State, session_numbered}
 use Rattle.switch_defs.specs.Dynamic.{act, changed, disconnected, judged_on, row_of}
 use Rattle.switch_defs.specs.Sound.{IsSound}
-use Rattle.switch_defs.proofs.Fitting.{NamesVlan, request_vlan}
+use Rattle.switch_defs.proofs.Fitting.{request_vlan}
+use Rattle.switch_defs.specs.Fitting.{NamesVlan}
 use Rattle.switch_defs.proofs.Judging.{Acks, judged_acks}
 use Rattle.switch_defs.proofs.Naming.{dynamics_name_sessions}
 use Rattle.turn_defs.specs.Parts.{Beside, armed_if}

@@ -5,8 +5,9 @@ use Rattle.switch_defs.specs.Switch.{Session, State, on_port}
 use Rattle.switch_defs.specs.Turn.{close_all, on_port_of}
 use Rattle.switch_defs.specs.Sound.{confs}
 use Rattle.switch_defs.proofs.Lists.{of_each}
-use Rattle.table_defs.proofs.Told.{AreRestricted, HasConf}
-use Rattle.turn_defs.proofs.Walks.{Closings, ClosingGoes, after_closing, closings_begin, closings_end, closings_step, next_place}
+use Rattle.table_defs.specs.Told.{AreRestricted, HasConf}
+use Rattle.turn_defs.proofs.Walks.{Closings, ClosingGoes, closings_begin, closings_end, closings_step}
+use Rattle.turn_defs.specs.Walks.{after_closing, next_place}
 use Rattle.table_defs.specs.declared.change.Item.{Item}
 use Rattle.control_core.specs.declared.state.Core.{Core}
 use Rattle.control_core.specs.Stands.{Holds}

@@ -27,7 +27,7 @@ use Rattle.switch_defs.specs.Sound.{In, here, there, IsPort, IsSound, IsUp, conf
 use Rattle.switch_defs.specs.Laws.{MayFrame, most_turns}
 use Rattle.switch_defs.proofs.Lists.{both, in_found, in_map, key_equal, of_each}
 use Rattle.switch_defs.proofs.Keeping.{confs_map}
-use Rattle.switch_defs.proofs.Hosts.{stays}
+use Rattle.switch_defs.specs.Moving.{stays}
 use Rattle.table_defs.proofs.Told.{by_none}
 use Rattle.turn_defs.proofs.Parts.{tells_none}
 use Rattle.table_defs.specs.declared.change.Item.{Item}

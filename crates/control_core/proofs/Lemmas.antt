@@ -20,9 +20,10 @@ use Rattle.host_sessions.specs.Finds.{FindsAt, IsAt}
 use Rattle.switch_defs.specs.Session.{close}
 use Rattle.switch_defs.proofs.Fitting.{vlans_close}
 use Rattle.switch_defs.proofs.Moving.{moved_close}
-use Rattle.table_defs.proofs.Told.{Speaks, aside_close}
+use Rattle.table_defs.proofs.Told.{aside_close}
+use Rattle.table_defs.specs.Told.{Speaks}
 use Rattle.turn_defs.specs.Parts.{Near}
-use Rattle.turn_defs.proofs.Walks.{Next, after_closing}
+use Rattle.turn_defs.specs.Walks.{Next, after_closing}
 use Rattle.control_core.specs.declared.state.Core.{Core}
 use Rattle.control_core.specs.Stands.{Lags}
 use Rattle.switch_defs.specs.Switch.{Host, Port, Session, State, hosts, is_at, is_port, port_of}

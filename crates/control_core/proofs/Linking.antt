@@ -14,7 +14,8 @@ use Rattle.switch_defs.specs.Sound.{IsSound, confs}
 use Rattle.switch_defs.proofs.Lists.{each_in, in_found}
 use Rattle.switch_defs.proofs.Keeping.{confs_map}
 use Rattle.table_defs.specs.Table as table
-use Rattle.table_defs.proofs.Told.{AreConfigured, AreRestricted, HasConf, by_set_control, by_set_link, has_conf, restricted_sound, session_conf}
+use Rattle.table_defs.proofs.Told.{by_set_control, by_set_link, has_conf, restricted_sound, session_conf}
+use Rattle.table_defs.specs.Told.{AreConfigured, AreRestricted, HasConf}
 use Rattle.table_defs.specs.declared.change.Item.{Item}
 use Rattle.table_defs.specs.declared.change.Item.TheVariants as now
 use Rattle.table_defs.specs.Change.{item_of}

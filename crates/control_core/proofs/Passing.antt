@@ -15,15 +15,16 @@ use Rattle.switch_defs.specs.Laws.{IsBetween, most_turns}
 use Rattle.switch_defs.specs.Sound.{HasVlan, In, IsSound, confs}
 use Rattle.switch_defs.proofs.Lists.{each_filter, each_in, each_map, in_map, of_each}
 use Rattle.switch_defs.proofs.Keeping.{confs_map, kept_each, kept_second}
-use Rattle.switch_defs.proofs.Hosts.{stays}
+use Rattle.switch_defs.specs.Moving.{stays}
 use Rattle.switch_defs.proofs.Fitting.{vlans_second}
 use Rattle.switch_defs.proofs.Resting.{closed_by, done_sessions, hosts_closed, hosts_placed, is_other_host}
 use Rattle.switch_defs.proofs.Soundness.{distinct_of, numbers_fit, seconds_may_settle, sound_is_between, turns_are_sound}
 use Rattle.table_defs.specs.Table.{Item}
-use Rattle.table_defs.proofs.Told.{AreRestricted, HasConf, Speaks, ToldBy, by_guests, by_none, by_then, few_opened, opened_guests, restricted_sound, session_conf}
+use Rattle.table_defs.proofs.Told.{by_guests, by_none, by_then, few_opened, restricted_sound, session_conf}
+use Rattle.table_defs.specs.Told.{AreRestricted, HasConf, Speaks, ToldBy, opened_guests}
 use Rattle.turn_defs.specs.Parts.{TellsOn}
 use Rattle.std.proofs.lemmas.List.{length-append, length-map}
-use Rattle.turn_defs.proofs.Walks.{later}
+use Rattle.turn_defs.specs.Walks.{later}
 use Rattle.control_core.specs.Passing.{MayPass}
 
 -- ---- the ports of sessions stay configured

@@ -7,7 +7,8 @@ use Rattle.switch_defs.specs.Sound.{AreApart, HasVlan}
 use Rattle.switch_defs.specs.Turn.{second_of}
 use Rattle.switch_defs.proofs.Lists.{of_each}
 use Rattle.turn_defs.proofs.Parts.{tells_noted}
-use Rattle.turn_defs.proofs.Walks.{Next, near_second}
+use Rattle.turn_defs.proofs.Walks.{near_second}
+use Rattle.turn_defs.specs.Walks.{Next}
 use Rattle.host_sessions.specs.declared.sessions.Sessions.{Sessions}
 use Rattle.host_sessions.specs.Idles.{Idles}
 use Rattle.control_core.specs.declared.state.Core.{Core}

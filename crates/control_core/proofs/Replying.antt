@@ -24,9 +24,10 @@ use Rattle.switch_defs.specs.Switch.{State}
 use Rattle.switch_defs.specs.Dynamic.{judged_on, keep_for, reply, reply_to, reply_with, secret_of}
 use Rattle.switch_defs.specs.Laws.{IsBetween}
 use Rattle.switch_defs.proofs.Moving.{unmoved}
-use Rattle.switch_defs.proofs.Hosts.{stays}
+use Rattle.switch_defs.specs.Moving.{stays}
 use Rattle.table_defs.specs.Table.{Item}
-use Rattle.table_defs.proofs.Told.{ToldBy, by_none}
+use Rattle.table_defs.proofs.Told.{by_none}
+use Rattle.table_defs.specs.Told.{ToldBy}
 use Rattle.turn_defs.specs.Parts.{TellsOn}
 use Rattle.turn_defs.proofs.Parts.{tells_none}
 use Rattle.control_core.specs.declared.state.Core.{Core}

@@ -13,7 +13,7 @@ use Rattle.switch_defs.specs.Sound.{AreApart, In, here, there}
 use Rattle.switch_defs.proofs.Lists.{first_dropped, key_same}
 use Rattle.switch_defs.proofs.Resting.{closed_by, done_sessions}
 use Rattle.turn_defs.specs.Parts.{is_gone}
-use Rattle.turn_defs.proofs.Walks.{Next, is_over, later}
+use Rattle.turn_defs.specs.Walks.{Next, is_over, later}
 
 -- ---- the n-th of a list
 

@@ -7,7 +7,8 @@ use Rattle.typed_session.specs.Follows.{with_sent}
 use Rattle.switch_defs.specs.Switch.{Session, State}
 use Rattle.switch_defs.specs.Decide.{Right, authorised}
 use Rattle.switch_defs.specs.Turn.{each_second, second_of}
-use Rattle.turn_defs.proofs.Walks.{Next, Seconds, SecondGoes, beside_second, is_over, next_place, seconds_begin, seconds_end, seconds_step}
+use Rattle.turn_defs.proofs.Walks.{Seconds, SecondGoes, beside_second, seconds_begin, seconds_end, seconds_step}
+use Rattle.turn_defs.specs.Walks.{Next, is_over, next_place}
 use Rattle.table_defs.specs.declared.change.Item.{Item}
 use Rattle.host_sessions.specs.declared.sessions.Sessions.{Sessions}
 use Rattle.host_sessions.specs.Holds as sessions

@@ -4,7 +4,7 @@ use Rattle.dynauth_defs.specs.declared.Action.{Action}
 use Rattle.dynauth_defs.specs.declared.Action.TheVariants.{Disconnect, Change}
 use Rattle.switch_defs.specs.Switch.{State}
 use Rattle.switch_defs.specs.Laws.{NamesSession}
-use Rattle.switch_defs.proofs.Fitting.{NamesVlan}
+use Rattle.switch_defs.specs.Fitting.{NamesVlan}
 
 -- a time that it sets is not 0
 abbrev pub HasTime : Action → Type 0

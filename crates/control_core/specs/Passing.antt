@@ -6,9 +6,9 @@ use Rattle.switch_defs.specs.Switch.{Session, State, hosts}
 use Rattle.switch_defs.specs.Turn.{second_of}
 use Rattle.switch_defs.specs.Sound.{confs}
 use Rattle.switch_defs.specs.Laws.{IsBetween}
-use Rattle.switch_defs.proofs.Fitting.{AreVlans}
-use Rattle.table_defs.proofs.Told.{AreRestricted, HasConf}
-use Rattle.turn_defs.proofs.Walks.{is_over}
+use Rattle.switch_defs.specs.Fitting.{AreVlans}
+use Rattle.table_defs.specs.Told.{AreRestricted, HasConf}
+use Rattle.turn_defs.specs.Walks.{is_over}
 use Rattle.table_defs.specs.declared.change.Item.{Item}
 use Rattle.control_core.specs.declared.state.Core.{Core}
 use Rattle.control_core.specs.Does.{Does}

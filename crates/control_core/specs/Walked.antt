@@ -3,8 +3,8 @@ use Rattle.std.specs.Prelude.{ℕ}
 use Rattle.switch_defs.specs.Switch.{Session, State}
 use Rattle.switch_defs.specs.Sound.{AreHosts}
 use Rattle.switch_defs.specs.Switch as switch
-use Rattle.table_defs.proofs.Told.{Closes, Speaks}
-use Rattle.turn_defs.proofs.Walks.{Next}
+use Rattle.table_defs.specs.Told.{Closes, Speaks}
+use Rattle.turn_defs.specs.Walks.{Next}
 use Rattle.control_core.specs.declared.state.Core.{Core}
 use Rattle.control_core.specs.Stands.{Holds}
 

@@ -7,7 +7,7 @@ ghost use Rattle.machine_defs.specs.Live.{InRange};
 ghost use Rattle.out_tray.specs.Tray.{spare, turn_room};
 ghost use Rattle.switch_defs.specs.Switch.{Port, Session, State, on_port, port_of, turned};
 ghost use Rattle.switch_defs.specs.Turn as model;
-ghost use Rattle.turn_defs.proofs.Walks.{after_closing, next_place};
+ghost use Rattle.turn_defs.specs.Walks.{after_closing, next_place};
 ghost use Rattle.table_defs.specs.declared.change.Item.{Item as Told};
 ghost use Rattle.control_core.specs.Stands.{Holds, MayTurn};
 ghost use Rattle.control_core.specs.Does.{Does, TellsOn, Turns};

@@ -9,7 +9,7 @@ ghost use Rattle.switch_defs.specs.Switch.{Session, State, session_numbered};
 ghost use Rattle.switch_defs.specs.Dynamic as dynamic;
 ghost use Rattle.switch_defs.specs.Dynamic.{judged_on};
 ghost use Rattle.switch_defs.specs.Turn as model;
-ghost use Rattle.switch_defs.proofs.Fitting.{MayName};
+ghost use Rattle.switch_defs.specs.Fitting.{MayName};
 ghost use Rattle.control_core.specs.Stands.{Holds, MayTurn, Stands};
 ghost use Rattle.control_core.specs.Does.{Does, TellsOn, Turns};
 ghost use Rattle.control_core.specs.Acts.{MayAct};

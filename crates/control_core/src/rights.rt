@@ -6,9 +6,9 @@ ghost use Rattle.switch_defs.specs.Switch.{Host, Session, State, hosts, port_add
 ghost use Rattle.switch_defs.specs.Decide.{authorised, restricted_of};
 ghost use Rattle.switch_defs.specs.Session.{no_guests};
 ghost use Rattle.switch_defs.specs.Sound.{AreApart, confs};
-ghost use Rattle.table_defs.proofs.Told.{HasConf};
+ghost use Rattle.table_defs.specs.Told.{HasConf};
 ghost use Rattle.turn_defs.specs.Parts.{Near};
-ghost use Rattle.turn_defs.proofs.Walks.{Next};
+ghost use Rattle.turn_defs.specs.Walks.{Next};
 ghost use Rattle.control_core.specs.Stands.{Holds, Lags};
 ghost use Rattle.control_core.specs.Does.{IsOfHost, TellsOn};
 ghost use Rattle.control_core.specs.Notes.{Notes};

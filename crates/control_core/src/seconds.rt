@@ -8,7 +8,7 @@ ghost use Rattle.switch_defs.specs.Switch.{Session, State, hosts};
 ghost use Rattle.switch_defs.specs.Decide.{authorised};
 ghost use Rattle.switch_defs.specs.Sound.{AreApart};
 ghost use Rattle.switch_defs.specs.Turn as model;
-ghost use Rattle.turn_defs.proofs.Walks.{Next, is_over};
+ghost use Rattle.turn_defs.specs.Walks.{Next, is_over};
 ghost use Rattle.control_core.specs.Stands.{Holds, MayTurn};
 ghost use Rattle.control_core.specs.Does.{Does, TellsOn, Turns};
 ghost use Rattle.control_core.specs.Passing.{MayPass, PassesIdly};

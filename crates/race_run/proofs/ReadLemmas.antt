@@ -7,8 +7,10 @@ use Rattle.switch_event.specs.Event.{Happening, Frame, Radius, Dynamic, Second, 
 use Rattle.authenticator.specs.Meaning.{IsEvent}
 use Rattle.trace_defs.specs.Line.Line.{Begin, Setting, Entry}
 use Rattle.trace_defs.specs.Line.Record.{Control}
-use Rattle.trace_defs.proofs.LineFacts.{Gives, Gives-at, IsAfter, IsEvent as IsWritten, line_of-after}
-use Rattle.trace_defs.proofs.SettingFacts.{IsRead, IsBefore, IsRead-valid}
+use Rattle.trace_defs.proofs.LineFacts.{Gives, Gives-at, IsAfter, line_of-after}
+use Rattle.trace_defs.specs.Records.{IsEvent as IsWritten}
+use Rattle.trace_defs.proofs.SettingFacts.{IsBefore, IsRead-valid}
+use Rattle.trace_defs.specs.Settings.{IsRead}
 use Rattle.trace_defs.proofs.SettingLines.{line_of-before}
 
 -- their ports are few and in range

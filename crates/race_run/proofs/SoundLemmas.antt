@@ -4,7 +4,8 @@ use Rattle.std.specs.List.{AllByRecursion}
 use Rattle.std.proofs.lemmas.List.{map-append}
 use Rattle.switch_event.specs.Config.{Config, empty}
 use Rattle.event_record.specs.declared.TheConstants.{MOST_EVENTS}
-use Rattle.trace_defs.proofs.SettingFacts.{IsRead, empty-read}
+use Rattle.trace_defs.proofs.SettingFacts.{empty-read}
+use Rattle.trace_defs.specs.Settings.{IsRead}
 use Rattle.trace_defs.specs.Line.{Record as Entered}
 use Rattle.history_defs.specs.Output.{controls_in, records_of}
 use Rattle.history_defs.proofs.OutputLemmas.{flat_more}

@@ -4,7 +4,7 @@ use Rattle.std.specs.List.{AllByRecursion}
 use Rattle.std.specs.Io.KnownBytes.{Appends, IsAtEnd}
 use Rattle.switch_event.specs.Config.{Config, empty}
 use Rattle.event_record.specs.declared.TheConstants.{MOST_EVENTS}
-use Rattle.trace_defs.proofs.SettingFacts.{IsRead}
+use Rattle.trace_defs.specs.Settings.{IsRead}
 use Rattle.trace_defs.specs.Alike.{ReadAlike}
 use Rattle.trace_defs.specs.Line.{Record}
 use Rattle.trace_defs.specs.Reading.{HasRead}

@@ -18,8 +18,10 @@ use Rattle.trace_defs.specs.Trace.Reading.{Going}
 use Rattle.trace_defs.proofs.TextLines.{is_no_feed, ended_lines-line}
 use Rattle.trace_defs.proofs.RecordBack.{record_back}
 use Rattle.trace_defs.proofs.LineFacts.{Gives-at, IsAfter, line_of-after}
-use Rattle.trace_defs.proofs.SettingFacts.{IsRead, IsRead-valid}
-use Rattle.trace_defs.proofs.TraceFacts.{AreRecords, controls_in, reading_sound}
+use Rattle.trace_defs.proofs.SettingFacts.{IsRead-valid}
+use Rattle.trace_defs.specs.Settings.{IsRead}
+use Rattle.trace_defs.proofs.TraceFacts.{controls_in, reading_sound}
+use Rattle.trace_defs.specs.Records.{AreRecords}
 use Rattle.trace_defs.proofs.TextBack.{closed-append, trace_text-closed, counted_lines-closed}
 use Rattle.trace_defs.proofs.ConfigBack.{config_text-back}
 use Rattle.trace_defs.proofs.ReadsBack.{behind}

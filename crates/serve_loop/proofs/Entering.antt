@@ -11,8 +11,8 @@ use Rattle.switch_defs.specs.Switch.{State}
 use Rattle.trace_defs.specs.Line.{Record}
 use Rattle.trace_defs.specs.Line.Record.{Control}
 use Rattle.trace_defs.specs.Text.{record_text}
-use Rattle.trace_defs.proofs.LineFacts.{IsRecord}
-use Rattle.trace_defs.proofs.TraceFacts.{AreRecords}
+use Rattle.trace_defs.specs.Records.{IsRecord}
+use Rattle.trace_defs.specs.Records.{AreRecords}
 use Rattle.history_defs.specs.Output.{Place, block, next_place}
 use Rattle.history_defs.proofs.PlaceLemmas.{place_config}
 use Rattle.outside_link.specs.Link.{Outgoing, Grows}

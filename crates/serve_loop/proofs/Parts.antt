@@ -9,7 +9,7 @@ use Rattle.std.proofs.lemmas.Bool.{and_parts, or_right}
 use Rattle.std.proofs.lemmas.Bool.Decides.{nat_tests}
 use Rattle.switch_event.specs.declared.config.PortConf.{PortConf}
 use Rattle.switch_event.specs.Config.{Config, within, are_ports, has_port, is_among, ports_apart}
-use Rattle.trace_defs.proofs.LineFacts.{IsPort}
+use Rattle.trace_defs.specs.Records.{IsPort}
 use Rattle.switch_event.specs.Sent.{Sent}
 use Rattle.outside_link.specs.Link.{Outgoing, Grows}
 use Rattle.outside_link.proofs.LinkLemmas.{Grows-same}

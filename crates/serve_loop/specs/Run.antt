@@ -5,7 +5,7 @@ use Rattle.wire_defs.specs.Outside.{Rose}
 use Rattle.switch_event.specs.Config.{Config, are_ports}
 use Rattle.switch_event.specs.Sent.{Sent}
 use Rattle.switch_defs.specs.Switch.{State}
-use Rattle.trace_defs.proofs.TraceFacts.{AreRecords}
+use Rattle.trace_defs.specs.Records.{AreRecords}
 use Rattle.trace_defs.specs.Line.{Record}
 use Rattle.history_defs.specs.Output.{Place, block, first_place, next_place, place_after}
 use Rattle.outside_link.specs.Link.{Incoming, Outgoing, Grows, Same}

@@ -1,7 +1,7 @@
 // The record of a datagram.
 ghost use Rattle.std.specs.Prelude.{◌≡◌, ◌<◌, ◌≤◌, length, true, IfSome};
 ghost use Rattle.switch_event.specs.Config.{Config as Settings, are_ports, has_port};
-ghost use Rattle.trace_defs.proofs.LineFacts.{IsRecord};
+ghost use Rattle.trace_defs.specs.Records.{IsRecord};
 ghost use Rattle.serve_defs.specs.declared.TheConstants.{MOST_FRAME, MOST_TAKEN};
 ghost use Rattle.serve_defs.specs.Served as served;
 ghost use Rattle.serve_loop.specs.Arrived.{arrivals_in, entry_of};

@@ -3,7 +3,7 @@ ghost use Rattle.std.specs.Prelude.{◌≡◌, ◌≤◌, ◌<◌, ◌+◌, ◌^
 ghost use Rattle.std.specs.Io.KnownBytes.{Appends, Keeps};
 ghost use Rattle.wire_defs.specs.Outside.{HasCause};
 ghost use Rattle.event_record.specs.declared.TheConstants.{MOST_EVENTS};
-ghost use Rattle.trace_defs.proofs.LineFacts.{IsPort, IsRecord};
+ghost use Rattle.trace_defs.specs.Records.{IsPort, IsRecord};
 ghost use Rattle.trace_print.specs.Printing.{HasLane, line_text};
 ghost use Rattle.outside_link.specs.Link.{Grows, Outgoing, Same};
 ghost use Rattle.serve_defs.specs.declared.TheConstants.{MOST_TAKEN};

@@ -44,6 +44,7 @@ use Rattle.switch_defs.proofs.Judging.{Acks, judged_acks}
 use Rattle.switch_defs.proofs.Frames.{fits_frame}
 use Rattle.switch_defs.proofs.Keeping.{kept_settle, kept_open, kept_answer, kept_request, kept_each, kept_mild, mild_second, mild_armed, kept_close_port, guests_map}
 use Rattle.switch_defs.proofs.Valid.{valid_vlans}
+use Rattle.switch_defs.specs.Fitting.{AreVlans, MayName, NamesVlan}
 
 -- ---- guests
 
@@ -99,9 +100,6 @@ guests_turn s (Link port up) g = guests_link up (port_of port s) s g
 guests_turn s (SetControl port c) g = guests_control c (port_of port s) s g
 
 -- ---- VLANs
-
-abbrev pub AreVlans : List Session → Type 0
-AreVlans ys = AllByRecursion HasVlan ys
 
 vlan_placed : (b : Bool) (x : Standing) (y : Session) → is_vlan x.vlan ≡ true → HasVlan y → HasVlan (record y { standing = if b then x else y.standing })
 vlan_placed true x y v w = v
@@ -235,14 +233,6 @@ vlans_answer s (Refused check) v a = a
 vlans_answer s (Told y said) v a = vlans_settle AnAnswer y.host (stands said y.standing) (forget y.host s) v a
 
 -- ---- what a request names
-
-abbrev pub MayName : Option ℕ → Type 0
-MayName None = Unit {0}
-MayName (Some vlan) = is_vlan vlan ≡ true
-
-abbrev pub NamesVlan : Action → Type 0
-NamesVlan (Disconnect number) = Unit {0}
-NamesVlan (Change number vlan t) = MayName vlan
 
 names_in : (t : Tunnel) → IsTunnel t → MayName (vlan_in t)
 names_in Absent f = tt

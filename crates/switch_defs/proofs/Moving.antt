@@ -24,13 +24,11 @@ use Rattle.switch_defs.specs.Answer.{stands, Answered, Refused, Told, answered_o
 use Rattle.switch_defs.specs.Dynamic.{act, disconnected, changed, reply_to, judged_on}
 use Rattle.switch_defs.specs.Turn.{FrameCase, Dropped, Forces, Opens, Turns, frame_case, do_frame, on_port_of, is_full, opened, fresh_standing, with_session, set_vars, cause_of, is_given_up, do_answer, do_request, age_request, second_by, second_of, each_second, tick, guests_second, close_all, close_port, up_by, link_by, do_link, up_if, control_by, do_control, set_link, set_control, turn}
 use Rattle.switch_defs.specs.Sound.{host_on, AreHosts, Fits}
-use Rattle.switch_defs.proofs.Hosts.{Moves, stays, drops, opens, and_on, found_host, as_many_on, moves_hosts}
+use Rattle.switch_defs.proofs.Hosts.{and_on, found_host, as_many_on, moves_hosts}
+use Rattle.switch_defs.specs.Moving.{stays, drops, opens}
+use Rattle.switch_defs.specs.Moving.{Moves, Moved}
 use Rattle.switch_defs.proofs.Resting.{hosts_placed, is_other_host, hosts_closed}
 use Rattle.switch_defs.proofs.Frames.{fits_frame}
-
--- a record, so that the states can be left out
-pub record Moved (s t : State) : Type 0 where
-  pub by : Moves (hosts s) s.next (hosts t) t.next
 
 pub unmoved : {s : State} → Moved s s
 unmoved = record { by = stays }

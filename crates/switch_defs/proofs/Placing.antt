@@ -12,7 +12,8 @@ use Rattle.switch_defs.specs.Turn.{opened, fresh_standing, set_link, with_link, 
 use Rattle.switch_defs.specs.Sound.{In, here, there, AreHosts, IsOpenPort, ArePlaced, IsUp}
 use Rattle.switch_defs.proofs.Lists.{of_both, each_in, of_each, each_push, in_map}
 use Rattle.switch_defs.proofs.Hosts.{moves_from, below_high}
-use Rattle.switch_defs.proofs.Moving.{Moved, hosts_pushed}
+use Rattle.switch_defs.proofs.Moving.{hosts_pushed}
+use Rattle.switch_defs.specs.Moving.{Moved}
 use Rattle.switch_defs.proofs.Turning.{none_on}
 use Rattle.switch_defs.proofs.Keeping.{Kept, kept_mild, mild_armed, kept_open, kept_close_port, open_map}
 

@@ -16,7 +16,9 @@ use Rattle.aaa_defs.specs.declared.Aged.{Aged}
 use Rattle.aaa_defs.specs.Age.{aged}
 use Rattle.switch_defs.proofs.Answers.{IsFit, answer_fits}
 use Rattle.switch_defs.proofs.Resting.{only_one, settle_rests}
-use Rattle.switch_defs.proofs.Hosts.{Moves, stays, drops, opens, moves_up, fewer_left, from_low}
+use Rattle.switch_defs.proofs.Hosts.{moves_up, fewer_left, from_low}
+use Rattle.switch_defs.specs.Moving.{stays, drops, opens}
+use Rattle.switch_defs.specs.Moving.{Moves}
 use Rattle.switch_defs.proofs.Requests.{few_requests, order_placed, order_filter, each_placed}
 use Rattle.machine_vars.specs.declared.control.Control.{Control}
 use Rattle.machine_defs.specs.BackendTable.{is_auto}
@@ -37,7 +39,8 @@ use Rattle.switch_defs.specs.Dynamic.{judged_on}
 use Rattle.switch_defs.specs.Turn.{FrameCase, Dropped, Forces, Opens, Turns, frame_case, do_frame, opened, fresh_standing, with_session, set_vars, cause_of, set_forced, guests_second, tick, up_by, up_if, link_by, do_link, control_by, do_control, set_link, set_control, close_port, turn}
 use Rattle.switch_defs.specs.Sound.{In, here, there, MayHaveGuests, SomeHost, AreOwned, InOrder, MaySettle, most_ports, Rises, AreHosts, AreFew, host_on, IsPort, IsOpenPort, ArePlaced, confs, IsSound, Fits, IsUp, ArePorts}
 use Rattle.switch_defs.proofs.Lists.{of_both, both, in_found, in_kept, in_map, of_each, each_in, each_filter, fewer}
-use Rattle.switch_defs.proofs.Moving.{Moved, moved_to, moved_open, moved_settle, moved_each, moved_second, moved_turn}
+use Rattle.switch_defs.proofs.Moving.{moved_to, moved_open, moved_settle, moved_each, moved_second, moved_turn}
+use Rattle.switch_defs.specs.Moving.{Moved}
 use Rattle.switch_defs.proofs.Turning.{may_open, may_event, may_answer, may_second, second_rests, rests_turn}
 use Rattle.switch_defs.proofs.Frames.{fits_frame, found_port}
 use Rattle.switch_defs.proofs.Keeping.{Kept, kept_none, kept_then, kept_mild, mild_second, kept_settle, kept_open, kept_answer, kept_request, kept_second, kept_each, kept_close_port, confs_map}

@@ -10,7 +10,7 @@ use Rattle.switch_event.specs.Config.{Config}
 use Rattle.switch_defs.specs.Switch.{Port, opened_port}
 use Rattle.switch_defs.specs.Sound.{confs}
 use Rattle.table_defs.specs.Table.{Item, Guest}
-use Rattle.table_defs.proofs.Told.{opened_guests, opens}
+use Rattle.table_defs.specs.Told.{opened_guests, opens}
 
 pub confs_opened : (c : Config) (cs : List PortConf) → confs (map (opened_port c) cs) ≡ cs
 confs_opened c [] = refl

@@ -7,7 +7,7 @@ ghost use Rattle.wire_defs.specs.Ethernet.{pae_group};
 ghost use Rattle.out_tray.specs.Tray.{spare, turn_room};
 ghost use Rattle.switch_defs.specs.Switch.{opened_port, port_address as address_of};
 ghost use Rattle.switch_defs.specs.Turn.{guest_second};
-ghost use Rattle.table_defs.proofs.Told.{opens};
+ghost use Rattle.table_defs.specs.Told.{opens};
 ghost use Rattle.switch_ports.specs.Ports.{IsForced, settled_to, with_said};
 
 use wire_defs::PAE_GROUP;

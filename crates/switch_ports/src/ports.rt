@@ -12,7 +12,7 @@ ghost use Rattle.switch_defs.specs.Switch.{Port, Session, is_port, on_port, open
 ghost use Rattle.switch_defs.specs.Session.{armed, unguested};
 ghost use Rattle.switch_defs.specs.Turn.{guest_second, with_control, with_link};
 ghost use Rattle.switch_defs.specs.Sound.{confs};
-ghost use Rattle.table_defs.proofs.Told.{opened_guests};
+ghost use Rattle.table_defs.specs.Told.{opened_guests};
 ghost use Rattle.switch_ports.specs.Ports.{IsForced, lets_guests, settled_at, shown, with_said};
 ghost use Rattle.switch_ports.specs.Index.{place_of};
 

@@ -29,18 +29,21 @@ use Rattle.switch_defs.specs.Answer.{Answered, Refused, Told as Taken, stands, a
 use Rattle.switch_defs.specs.Dynamic.{act, disconnected, changed, times_or, vlan_or, reply_to, judged_on}
 use Rattle.switch_defs.specs.Turn.{FrameCase, Dropped, Forces, Opens, Turns, frame_case, do_frame, opened, fresh_standing, with_session, set_vars, cause_of, do_answer, do_request, age_request, is_given_up, second_by, second_of, each_second, guest_second, guests_second, tick, close_all, close_port, on_port_of, up_by, link_by, do_link, up_if, control_by, do_control, with_link, set_link, with_control, set_control, turn}
 use Rattle.switch_defs.specs.Decide.{Right, PortView, view, restricted_of, right_of, authorised}
-use Rattle.switch_defs.specs.Sound.{In, here, there, AreHosts, AreFew, Fits, confs, IsSound, IsOpenPort, HasVlan, MayHaveGuests}
+use Rattle.switch_defs.specs.Sound.{In, here, there, AreFew, Fits, confs, IsSound, IsOpenPort, HasVlan, MayHaveGuests}
 use Rattle.switch_defs.proofs.Lists.{both, in_found, in_map, each_in, each_filter, each_push, first_kept, first_same, first_pushed, key_apart, key_equal, fewer, of_each, of_both}
 use Rattle.switch_defs.proofs.Frames.{fits_frame}
 use Rattle.switch_defs.proofs.Keeping.{confs_map, mild_second}
 use Rattle.switch_defs.proofs.Answers.{IsFit, answer_fits}
 use Rattle.switch_defs.proofs.Judging.{Acks}
 use Rattle.switch_defs.proofs.Valid.{valid_confs}
-use Rattle.switch_defs.proofs.Fitting.{AreVlans, vlans_placed, vlans_close, vlans_settle, vlans_second, native_vlan, SaysVlan, answer_vlan, MayName, NamesVlan, request_vlan, changed_vlan}
-use Rattle.switch_defs.proofs.Moving.{Moved, unmoved, then_moved, moved_to, moved_place, moved_close, moved_settle, moved_open}
-use Rattle.switch_defs.proofs.Hosts.{stays}
+use Rattle.switch_defs.proofs.Fitting.{vlans_placed, vlans_close, vlans_settle, vlans_second, native_vlan, SaysVlan, answer_vlan, request_vlan, changed_vlan}
+use Rattle.switch_defs.specs.Fitting.{AreVlans, MayName, NamesVlan}
+use Rattle.switch_defs.proofs.Moving.{unmoved, then_moved, moved_to, moved_place, moved_close, moved_settle, moved_open}
+use Rattle.switch_defs.specs.Moving.{Moved}
+use Rattle.switch_defs.specs.Moving.{stays}
 use Rattle.switch_defs.proofs.Soundness.{distinct_of}
 use Rattle.table_defs.specs.Table.{Item, Link, SetControl, Guest, Let, Bar, is_view, view_link, view_control, view_guest, view_absorbed, views_after, conf_of, allowed_by, IsAllowed, said, all_said, Leads, Rights, AreRoomy, StayRoomy, Tells, IsTold}
+use Rattle.table_defs.specs.Told.{AreConfigured, AreRestricted, Aside, Closes, HasConf, Speaks, ToldBy, item_by, opened_guests, opens}
 
 -- ---- what a host is authorised for
 
@@ -94,13 +97,6 @@ stay_append [] js f g e r q = stay_same js f g e q
 stay_append (i ∷ is) js f g e r q = (r.0, stay_append is js _ g e r.1 q)
 
 -- ---- items that tell of what changed
-
-pub record ToldBy (is : List Item) (s t : State) : Type 0 where
-  pub leads : Leads s is t
-  pub moved : Moved s t
-  pub settings : confs t.ports ≡ confs s.ports
-  pub allowed : AllByRecursion (IsAllowed (confs s.ports)) is
-  pub room : AreHosts (hosts s) s.next → StayRoomy (authorised s) is
 
 -- at most n items do
 pub record Told (n : ℕ) (s t : State) : Type 0 where
@@ -160,12 +156,6 @@ told_none s t e c f m = record { items = []; few = omega arith; by = by_none s t
 
 -- ---- one host
 
--- all but one host's session is as before
-pub record Aside (h : Host) (s t : State) : Type 0 where
-  pub ports : map view s.ports ≡ map view t.ports
-  pub confs : confs t.ports ≡ confs s.ports
-  pub others : (port : ℕ) (address : List ℕ) → same_key h.port h.address port address ≡ false → session_at port address t ≡ session_at port address s
-
 pub aside_none : {h : Host} {s : State} → Aside h s s
 aside_none = record { ports = refl; confs = refl; others = λ port address e. refl }
 
@@ -217,11 +207,6 @@ aside_follow why h x r s =
 pub aside_settle : (why : Cause) (h : Host) (x : Standing) (s : State) → Aside h s (settle_session why h x s).state
 aside_settle why h x s = aside_follow why h x (settled x.vars) s
 
--- what there is to say of a host: its right, or that it has none
-abbrev pub item_by : Host → Option Right → Item
-item_by h None = Bar h.port h.address
-item_by h (Some r) = Let h.port h.address r
-
 abbrev pub item_for : Host → State → Item
 item_for h s = item_by h (authorised s h.port h.address)
 
@@ -250,10 +235,6 @@ aside_leads {h = h} s t a = record {
 
 -- ---- items that the settings allow
 
--- a port of this number is configured
-abbrev pub HasConf : List PortConf → ℕ → Type 0
-HasConf ps n = (c : PortConf) × (conf_of n ps ≡ Some c)
-
 conf_found : (n : ℕ) (ps : List Port) (q : Port) → find (is_port n) ps ≡ Some q → conf_of n (confs ps) ≡ Some q.conf
 conf_found n [] q e = cc
 conf_found n (p ∷ ps) q e = by (is_port n p) e (conf_found n ps q)
@@ -278,10 +259,6 @@ open_conf s n (Some q) e p = has_conf s n q e
 -- so it is of each session's port
 pub session_conf : {turns : ℕ} (s : State) (y : Session) → IsSound turns s → In y s.sessions → HasConf (confs s.ports) y.host.port
 session_conf s y a i = open_conf s y.host.port (port_of y.host.port s) refl (of_each (λ h. IsOpenPort (port_of h.port s)) a.placed (in_map (λ (y : Session). y.host) i))
-
--- the restricted VLANs of settings
-abbrev pub AreRestricted : List PortConf → Type 0
-AreRestricted ps = AllByRecursion (λ c. c.restricted ≤ 4094) ps
 
 restricted_small : (o : Option PortConf) (ps : List PortConf) (n : ℕ) → conf_of n ps ≡ o → AreRestricted ps → conf_restricted o ≤ 4094
 restricted_small None ps n e a = omega arith
@@ -316,12 +293,6 @@ rights_vlan s port address r v c e =
 item_allowed : (ps : List PortConf) (h : Host) (o : Option Right) → HasConf ps h.port → ((r : Right) → o ≡ Some r → is_vlan r.vlan ≡ true) → IsAllowed ps (item_by h o)
 item_allowed ps h None c v = rw (c.1) refl
 item_allowed ps h (Some r) c v = rw (c.1) (v r refl)
-
--- what is known where something is said of a host: its port is configured, and the VLANs that there are afterwards are such
-pub record Speaks (h : Host) (s t : State) : Type 0 where
-  pub here : HasConf (confs s.ports) h.port
-  pub restricted : AreRestricted (confs s.ports)
-  pub vlans : AreVlans t.sessions
 
 pub by_aside : {h : Host} (s t : State) → Aside h s t → Moved s t → Speaks h s t → ToldBy (item_for h t ∷ []) s t
 by_aside {h = h} s t a m k =
@@ -411,15 +382,6 @@ pub by_shut : (n : ℕ) (s : State) → AllByRecursion (IsShut n) s.ports → To
 by_shut n s a = by_none s (no_guests n s) (shut_views n s.ports a) (confs_map _ (λ p. refl) s.ports) refl (record { by = stays })
 
 -- ---- guests of all ports
-
--- a second opens the port to guests
-abbrev pub opens : Port → Bool
-opens p = p.guest_while == 1 && not p.guest_open
-
--- the items of the ports that it opens
-abbrev pub opened_guests : List Port → List Item
-opened_guests [] = []
-opened_guests (p ∷ ps) = if opens p then Guest p.conf.port true ∷ opened_guests ps else opened_guests ps
 
 -- what items make of one port
 abbrev pub view_one : PortView → List Item → PortView
@@ -675,10 +637,6 @@ told_second_by false y s v k =
     let u : State = age_request a y.host s in
     told_then {n = 0} {m = 1} s u (settle_session Another y.host x u).state (told_same s u refl refl (record { by = stays })) (told_settle Another y.host x u v (record { here = k.here; restricted = k.restricted; vlans = k.vlans }))
 
--- the ports of these sessions are configured
-abbrev pub AreConfigured : List PortConf → List Session → Type 0
-AreConfigured ps ys = AllByRecursion (λ y. HasConf ps y.host.port) ys
-
 pub told_each : (ys : List Session) (s : State) → AreVlans ys → AreConfigured (confs s.ports) ys → AreRestricted (confs s.ports) → AreVlans s.sessions → Told (length ys) s (each_second ys s).state
 told_each [] s v c r a = told_zero s
 told_each (y ∷ ys) s v c r a =
@@ -694,13 +652,6 @@ told_close_all (y ∷ ys) s c r a =
     let first = told_close y.host s (record { here = c.0; restricted = r; vlans = a }) in
     let rest = told_close_all ys u (subst (λ (cs : List PortConf). AreConfigured cs ys) (sym first.by.settings) c.1) (subst AreRestricted (sym first.by.settings) r) (vlans_close y.host s a) in
     told_weaker {n = 1 + length ys} (omega arith) (told_then {n = 1} {m = length ys} s u (close_all ys u) first rest)
-
--- what is known before a port is closed
-pub record Closes (n : ℕ) (s : State) : Type 0 where
-  pub here : HasConf (confs s.ports) n
-  pub hosts : AreConfigured (confs s.ports) s.sessions
-  pub restricted : AreRestricted (confs s.ports)
-  pub vlans : AreVlans s.sessions
 
 pub told_close_port : (n : ℕ) (s : State) → Closes n s → Told (length s.sessions + 1) s (close_port n s)
 told_close_port n s k =

@@ -17,7 +17,8 @@ use Rattle.trace_defs.specs.Trace.Reading.{Going}
 use Rattle.trace_defs.proofs.TextLines.{IsUnfed, AreUnfed, AreUnfed-append, words-unfed, ended_lines-lines}
 use Rattle.trace_defs.proofs.PortFacts.{valid_ports-at}
 use Rattle.trace_defs.proofs.LineFacts.{Gives-at}
-use Rattle.trace_defs.proofs.SettingFacts.{IsRead, IsBefore, IsRead-valid}
+use Rattle.trace_defs.proofs.SettingFacts.{IsBefore, IsRead-valid}
+use Rattle.trace_defs.specs.Settings.{IsRead}
 use Rattle.trace_defs.proofs.SettingLines.{line_of-before}
 use Rattle.trace_defs.proofs.SettingWords.{port_are_words, vlan_are_words, clients_unfed, first_unfed, times_unfed, last_unfed}
 use Rattle.trace_defs.proofs.SettingsBack.{bare, after, clients_back, ports_back, first_back, last_back}

@@ -17,12 +17,13 @@ use Rattle.trace_defs.specs.declared.keyword.RecordWord.TheVariants as entry
 use Rattle.trace_defs.specs.Word.{keyword_of, lane_of, two_of, three_of, socket_of, address_of, hex_in, control_of, link_of}
 use Rattle.trace_defs.specs.declared.reason.TheConstants.{LONG, OCTET, LANE, WORD, PLACE, COUNT, NUMBER, HEX, NAME, PORT, LANED}
 use Rattle.trace_defs.specs.Refusal.{◌>>=◌, or_refused, unless}
-use Rattle.trace_defs.specs.Line.{Record, Line, Head, head_of, behind_mark, has_wrong_lane, is_unknown, is_misplaced, keyword_line, headed_line, alone, in_lane, event_line, frame_line, radius_line, dyn_line, port_event, link_line, control_line, record_line, is_mark, words_line, is_comment, is_printable, stripped_line, line_of}
+use Rattle.trace_defs.specs.Line.{Line, Head, head_of, behind_mark, has_wrong_lane, is_unknown, is_misplaced, keyword_line, headed_line, alone, in_lane, event_line, frame_line, radius_line, dyn_line, port_event, link_line, control_line, record_line, is_mark, words_line, is_comment, is_printable, stripped_line, line_of}
 use Rattle.trace_defs.specs.Line.Record.{Control, Data}
 use Rattle.trace_defs.specs.Line.Line.{Blank, Begin, Sync, Setting, Entry}
-use Rattle.trace_defs.proofs.PlainWords.{is_glyph}
-use Rattle.trace_defs.proofs.NumberText.{IsAddress, number_in-some, address_of-some}
-use Rattle.trace_defs.proofs.OctetText.{IsSized, hex_in-some}
+use Rattle.trace_defs.specs.Sized.{is_glyph, IsSized, IsPlain}
+use Rattle.trace_defs.proofs.NumberText.{number_in-some, address_of-some}
+use Rattle.trace_defs.proofs.OctetText.{hex_in-some}
+use Rattle.trace_defs.specs.Records.{IsEvent, IsPort, IsRecord}
 
 -- what is known of a line where it is not refused
 abbrev pub Gives : (Line → Type 0) → Result Line ℕ → Type 0
@@ -48,11 +49,6 @@ pub Gives-if : (P : Line → Type 0) (b : Bool) (x y : Result Line ℕ) → (b �
 Gives-if P b x y h k = cond_both b x y (Gives P) h k
 
 -- ---- the words of a printable line
-
--- words of glyphs
-pub record IsPlain (word : List ℕ) : Type 0 where
-  pub some : 0 < length word
-  pub plain : list_all is_glyph word ≡ true
 
 abbrev pub ArePlain : List (List ℕ) → Type 0
 ArePlain [] = Unit {0}
@@ -160,25 +156,6 @@ line_of-gives P config given begun line blank each = of_text (strip_carriage_ret
     of_text text = Gives-if P (is_comment text) (Ok Blank) (words_line config given begun text (words text)) (λ e. blank) (λ e. of_words text (words text) (words-plain text))
 
 -- ---- records
-
--- a port of the settings
-pub record IsPort (config : Config) (port : ℕ) : Type 0 where
-  pub low : 1 ≤ port
-  pub high : port ≤ 60
-  pub known : has_port port config ≡ true
-
-abbrev pub IsEvent : Config → Happening → Type 0
-IsEvent config (Frame port octets) = IsPort config port × IsSized 0 2000 octets × (is_control octets ≡ true)
-IsEvent config (Radius socket octets) = (socket ≤ 4) × IsSized 0 5000 octets
-IsEvent config (Dynamic from octets) = IsAddress from.ip × (from.port ≤ 65535) × IsSized 0 5000 octets
-IsEvent config Second = Unit {0}
-IsEvent config (Link port up) = IsPort config port
-IsEvent config (SetControl port control) = IsPort config port
-
--- a record that a line can write under these settings
-abbrev pub IsRecord : Config → Record → Type 0
-IsRecord config (Control lane event) = (1 ≤ lane) × (lane ≤ 3) × IsEvent config event
-IsRecord config (Data port octets) = IsPort config port × IsSized 0 2000 octets × (is_control octets ≡ false)
 
 -- what a line says that stands after `begin`
 abbrev pub IsAfter : Config → Line → Type 0

@@ -14,7 +14,8 @@ use Rattle.std.proofs.lemmas.Str.Parse.{digit_from_value}
 use Rattle.wire_defs.specs.Number.{number_in, is_number}
 use Rattle.trace_defs.specs.Word.{four_of, address_of}
 use Rattle.trace_defs.specs.Text.{dotted}
-use Rattle.trace_defs.proofs.PlainWords.{is_glyph, IsWord, weaker}
+use Rattle.trace_defs.proofs.PlainWords.{IsWord, weaker}
+use Rattle.trace_defs.specs.Sized.{is_glyph, IsAddress}
 
 -- ---- numbers
 
@@ -78,10 +79,6 @@ number_in-some least most word n h = step (is_number word) least most (digits_va
     step b least most v n h = grind (arith, nat_tests)
 
 -- ---- addresses
-
-abbrev pub IsAddress : List ℕ → Type 0
-IsAddress (a ∷ b ∷ c ∷ d ∷ []) = (a ≤ 255) × (b ≤ 255) × (c ≤ 255) × (d ≤ 255)
-IsAddress other = ⊥
 
 no_dot : (n : ℕ) → n ≤ 255 → All (λ x. eqb x 46 ≡ false) (decimal n)
 no_dot n h = others (decimal n) (decimal_digits n (omega arith))

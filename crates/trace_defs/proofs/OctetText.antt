@@ -11,15 +11,10 @@ use Rattle.machine_vars.specs.declared.control.Control.{Control as PortControl}
 use Rattle.machine_vars.specs.declared.control.Control.TheVariants.{Auto, ForceAuth, ForceUnauth}
 use Rattle.trace_defs.specs.Word.{hex_in, sized, decoded, name_of, control_of, link_of, switch_of}
 use Rattle.trace_defs.specs.Text.{octets_text, control_text, link_text, switch_text}
-use Rattle.trace_defs.proofs.PlainWords.{is_glyph, IsWord, word_by_test}
+use Rattle.trace_defs.proofs.PlainWords.{IsWord, word_by_test}
+use Rattle.trace_defs.specs.Sized.{is_glyph, IsSized}
 
 -- ---- octets
-
--- octets, so many of them
-pub record IsSized (least most : ℕ) (text : List ℕ) : Type 0 where
-  pub low : least ≤ length text
-  pub high : length text ≤ most
-  pub octets : IsBytes text
 
 within : (least most n : ℕ) (octets : List ℕ) → least ≤ n → n ≤ most → cond (leb least n && leb n most) (Some octets) None ≡ Some octets
 within least most n octets low high = grind (arith, nat_tests)

@@ -13,10 +13,7 @@ use Rattle.trace_defs.specs.Line.{line_of, head_of, words_line, is_comment, is_p
 use Rattle.trace_defs.proofs.Headed.{spoken_line, headed-short}
 use Rattle.trace_defs.specs.Line.Line.{Blank}
 use Rattle.trace_defs.specs.Text.{spaced}
-
--- the octets of a word: a printable one other than the space
-abbrev pub is_glyph : ℕ → Bool
-is_glyph octet = leb 33 octet && leb octet 126
+use Rattle.trace_defs.specs.Sized.{is_glyph}
 
 abbrev pub is_word : ℕ → List ℕ → Bool
 is_word most word = ltb 0 (length word) && (leb (length word) most && list_all is_glyph word)

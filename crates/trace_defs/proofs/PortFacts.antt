@@ -12,10 +12,7 @@ use Rattle.switch_event.specs.Config.{within, is_among, ports_apart, are_ports, 
 use Rattle.trace_defs.specs.declared.keyword.OtherVlan.{OtherVlan}
 use Rattle.trace_defs.specs.declared.keyword.OtherVlan.TheVariants.{Restricted, Guest}
 use Rattle.trace_defs.specs.Line.{with_other_vlan, change_vlan, give_vlan}
-
-pub record IsWithin (least most n : ℕ) : Type 0 where
-  pub low : least ≤ n
-  pub high : n ≤ most
+use Rattle.trace_defs.specs.Sized.{IsWithin}
 
 pub within-true : (least most n : ℕ) → IsWithin least most n → within least most n ≡ true
 within-true least most n h = both least most n h.low h.high

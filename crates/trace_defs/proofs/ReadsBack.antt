@@ -13,7 +13,8 @@ use Rattle.trace_defs.specs.Trace.Stop.{Full}
 use Rattle.trace_defs.specs.Trace.Reading.{Going}
 use Rattle.trace_defs.proofs.TextLines.{is_no_feed, ended_lines-line}
 use Rattle.trace_defs.proofs.RecordBack.{record_back}
-use Rattle.trace_defs.proofs.TraceFacts.{records_of, AreRecords, controls_in, controls_in-append, reading_sound}
+use Rattle.trace_defs.proofs.TraceFacts.{records_of, controls_in, controls_in-append, reading_sound}
+use Rattle.trace_defs.specs.Records.{AreRecords}
 use Rattle.trace_defs.proofs.PlainWords.{word_by_test, line_of-words}
 use Rattle.trace_defs.proofs.ConfigBack.{config_text-back}
 

@@ -21,8 +21,10 @@ use Rattle.trace_defs.specs.Line.Line.{Entry}
 use Rattle.trace_defs.proofs.PlainWords.{IsWord, word_by_test, AreWords, room, line_of-words}
 use Rattle.trace_defs.proofs.TextLines.{is_no_feed, words-unfed, ended_lines-line}
 use Rattle.trace_defs.proofs.NumberText.{number_back, number_word, address_back, address_word}
-use Rattle.trace_defs.proofs.OctetText.{IsSized, octets_back, octets_word, control_back, control_word, link_back, link_word}
-use Rattle.trace_defs.proofs.LineFacts.{IsPort, IsEvent, IsRecord, IsAfter, Gives-at, line_of-after}
+use Rattle.trace_defs.proofs.OctetText.{octets_back, octets_word, control_back, control_word, link_back, link_word}
+use Rattle.trace_defs.specs.Sized.{IsSized}
+use Rattle.trace_defs.proofs.LineFacts.{IsAfter, Gives-at, line_of-after}
+use Rattle.trace_defs.specs.Records.{IsPort, IsEvent, IsRecord}
 
 -- ---- the words of a control event
 

@@ -9,17 +9,15 @@ use Rattle.std.proofs.lemmas.Slice.Eq.{bytes_eq-Decides}
 use Rattle.std.proofs.lemmas.Bool.Decides.{nat_tests}
 use Rattle.std.proofs.lemmas.Nat.Bits.{and_pow, bit_at_or, bit_at-pow_other}
 use Rattle.hex.specs.Hex.{IsBytes}
-use Rattle.machine_vars.specs.declared.control.Times.{Times}
 use Rattle.wire_defs.specs.Number.{number_in}
-use Rattle.switch_event.specs.Config.{Config, Client, Nas, empty, within, has_address, is_valid_client, clients_apart, are_valid_ports, are_valid_clients, are_valid_names, are_valid_times, is_valid_clock, is_valid}
-use Rattle.wire_core.specs.declared.address.Addr.{Addr}
+use Rattle.switch_event.specs.Config.{Config, Client, empty, within, has_address, is_valid_client, clients_apart, are_valid_ports, are_valid_clients, are_valid_names, are_valid_times, is_valid_clock, is_valid}
 use Rattle.trace_defs.specs.declared.given.TheConstants.{SERVER}
 use Rattle.trace_defs.specs.Line.{Line, was_given, with_given}
 use Rattle.trace_defs.specs.Line.Line.{Blank, Begin, Sync, Setting, Entry}
-use Rattle.trace_defs.proofs.NumberText.{IsAddress, number_in-some}
-use Rattle.trace_defs.proofs.OctetText.{IsSized}
-use Rattle.trace_defs.proofs.LineFacts.{IsPlain}
-use Rattle.trace_defs.proofs.PortFacts.{IsWithin, within-true}
+use Rattle.trace_defs.proofs.NumberText.{number_in-some}
+use Rattle.trace_defs.proofs.PortFacts.{within-true}
+use Rattle.trace_defs.specs.Sized.{IsWithin}
+use Rattle.trace_defs.specs.Settings.{AreNew, IsClient, IsRead}
 
 -- ---- the settings that were given
 
@@ -38,60 +36,15 @@ was_given-other k j given other = ap (λ n. not (eqb n 0)) same
 
 -- ---- clients
 
-pub record IsClient (client : Client) : Type 0 where
-  pub ip : IsAddress client.ip
-  pub secret : IsSized 1 64 client.secret
-
--- clients of which none is among those before it
-abbrev pub AreNew : List Client → List Client → Type 0
-AreNew before [] = Unit {0}
-AreNew before (client ∷ rest) = IsClient client × (has_address client.ip before ≡ false) × AreNew (before ++ client ∷ []) rest
-
 pub AreNew-more : (before clients : List Client) (client : Client) → AreNew before clients → IsClient client → has_address client.ip (before ++ clients) ≡ false → AreNew before (clients ++ client ∷ [])
 AreNew-more before [] client hs h new = (h, ap (has_address client.ip) (sym (append-nil before)) ∙ new, tt)
 AreNew-more before (c ∷ clients) client hs h new =
     (hs.0, hs.1, AreNew-more (before ++ c ∷ []) clients client hs.2 h (ap (has_address client.ip) (append_assoc before (c ∷ []) clients) ∙ new))
 
-pub record AreClients (clients : List Client) : Type 0 where
-  pub new : AreNew [] clients
-  pub few : length clients ≤ 4
-
 -- ---- settings
 
 pub in_range : (least most : ℕ) (word : List ℕ) (n : ℕ) → number_in least most word ≡ Some n → IsWithin least most n
 in_range least most word n h = record { low = (number_in-some least most word n h).0; high = (number_in-some least most word n h).1 }
-
-pub record IsNas (nas : Nas) : Type 0 where
-  pub ip : IsAddress nas.ip
-  pub name : IsPlain nas.name
-  pub short : length nas.name ≤ 32
-
-pub record IsServer (server : Addr) (secret : List ℕ) : Type 0 where
-  pub ip : IsAddress server.ip
-  pub port : IsWithin 1 65535 server.port
-  pub shared : IsSized 1 64 secret
-
-pub record IsTimed (times : Times) : Type 0 where
-  pub quiet : IsWithin 1 65535 times.quiet
-  pub server : IsWithin 1 65535 times.server
-  pub reauth_max : IsWithin 1 10 times.reauth_max
-  pub reauth_period : IsWithin 1 4294967295 times.reauth_period
-
-pub record IsClocked (guest_wait window clock : ℕ) : Type 0 where
-  pub wait : IsWithin 1 65535 guest_wait
-  pub window_day : IsWithin 1 86400 window
-  pub clock_fits : IsWithin 0 4294967295 clock
-
--- settings that lines can write, with a server where it was given
-pub record IsRead (config : Config) (given : ℕ) : Type 0 where
-  pub bridge : IsSized 6 6 config.bridge
-  pub nas : IsNas config.nas
-  pub server : was_given SERVER given ≡ true → IsServer config.server config.secret
-  pub clients : AreClients config.clients
-  pub ports : are_valid_ports config.ports ≡ true
-  pub timed : IsTimed config.times
-  pub clocked : IsClocked config.guest_wait config.window config.clock
-  pub seed : IsSized 32 32 config.seed
 
 -- what a line says that stands before `begin`
 abbrev pub IsBefore : ℕ → Line → Type 0

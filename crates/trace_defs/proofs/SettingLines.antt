@@ -22,9 +22,11 @@ use Rattle.trace_defs.specs.Line.{was_given, with_given, once, bridge_line, nas_
 use Rattle.trace_defs.specs.Line.Line.{Begin, Setting}
 use Rattle.trace_defs.proofs.NumberText.{address_of-some}
 use Rattle.trace_defs.proofs.OctetText.{hex_in-some, name_of-some}
-use Rattle.trace_defs.proofs.LineFacts.{Gives, Gives-some, Gives-unless, Gives-alone, IsPlain, ArePlain, IsLane, line_of-gives}
+use Rattle.trace_defs.proofs.LineFacts.{Gives, Gives-some, Gives-unless, Gives-alone, ArePlain, IsLane, line_of-gives}
+use Rattle.trace_defs.specs.Sized.{IsPlain}
 use Rattle.trace_defs.proofs.PortFacts.{IsConf, valid_ports-more, give-valid_ports}
-use Rattle.trace_defs.proofs.SettingFacts.{was_given-other, AreNew-more, AreClients, in_range, IsNas, IsServer, IsTimed, IsClocked, IsRead, IsBefore}
+use Rattle.trace_defs.proofs.SettingFacts.{was_given-other, AreNew-more, in_range, IsBefore}
+use Rattle.trace_defs.specs.Settings.{AreClients, IsNas, IsServer, IsTimed, IsClocked, IsRead}
 
 module _ (config : Config) (given : ℕ) (h : IsRead config given) where
   -- a setting that is given once

@@ -12,9 +12,11 @@ use Rattle.trace_defs.specs.Text.{dotted, switch_text, client_words, port_words,
 use Rattle.trace_defs.proofs.PlainWords.{IsWord, is_word, word_by_test, AreWords}
 use Rattle.trace_defs.proofs.TextLines.{IsUnfed, AreUnfed, words-unfed}
 use Rattle.trace_defs.proofs.NumberText.{number_word, address_word}
-use Rattle.trace_defs.proofs.OctetText.{IsSized, hex_word, control_word, switch_word}
-use Rattle.trace_defs.proofs.PortFacts.{IsWithin, IsConf}
-use Rattle.trace_defs.proofs.SettingFacts.{IsClient, AreNew, IsNas, IsServer, IsTimed, IsClocked}
+use Rattle.trace_defs.proofs.OctetText.{hex_word, control_word, switch_word}
+use Rattle.trace_defs.specs.Sized.{IsSized}
+use Rattle.trace_defs.proofs.PortFacts.{IsConf}
+use Rattle.trace_defs.specs.Sized.{IsWithin}
+use Rattle.trace_defs.specs.Settings.{IsClient, AreNew, IsNas, IsServer, IsTimed, IsClocked}
 
 pub as_number : (least most n : ℕ) → IsWithin least most n → most ≤ 4294967295 → IsWord 20 (decimal n)
 as_number least most n h fits = number_word n (omega (arith, h.high))

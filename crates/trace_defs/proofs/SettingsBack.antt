@@ -23,9 +23,11 @@ use Rattle.trace_defs.specs.Trace.{Progress, start, add_line, go_on, read_lines}
 use Rattle.trace_defs.proofs.Headed.{with-some, unless-next, spoken_line}
 use Rattle.trace_defs.proofs.PlainWords.{IsWord, word_by_test, line_of-words}
 use Rattle.trace_defs.proofs.NumberText.{number_back, address_back}
-use Rattle.trace_defs.proofs.OctetText.{IsSized, hex_back, name_back, control_back, switch_back}
-use Rattle.trace_defs.proofs.PortFacts.{IsWithin, IsConf, among-map, valid_ports-at}
-use Rattle.trace_defs.proofs.SettingFacts.{IsClient, AreNew, IsNas, IsServer, IsTimed, IsClocked}
+use Rattle.trace_defs.proofs.OctetText.{hex_back, name_back, control_back, switch_back}
+use Rattle.trace_defs.specs.Sized.{IsSized}
+use Rattle.trace_defs.proofs.PortFacts.{IsConf, among-map, valid_ports-at}
+use Rattle.trace_defs.specs.Sized.{IsWithin}
+use Rattle.trace_defs.specs.Settings.{IsClient, AreNew, IsNas, IsServer, IsTimed, IsClocked}
 use Rattle.trace_defs.proofs.SettingWords.{as_number, bridge_words, nas_words, server_words, client_are_words, port_are_words, set_are_words, switch_value, clock_words, seed_words}
 
 once_new : (k : ℕ) (config : Config) (given : ℕ) (new : Config) → was_given k given ≡ false → once k given new ≡ Ok (Setting new (with_given k given))

@@ -6,7 +6,8 @@ use Rattle.std.proofs.lemmas.Bool.Decides.{nat_tests}
 use Rattle.wire_defs.specs.Text.{ended_lines, ended_after, open_after}
 use Rattle.wire_defs.proofs.TextLemmas.{ended_lines-feed}
 use Rattle.trace_defs.specs.Text.{spaced, text_line}
-use Rattle.trace_defs.proofs.PlainWords.{is_glyph, AreWords, spaced-passes}
+use Rattle.trace_defs.proofs.PlainWords.{AreWords, spaced-passes}
+use Rattle.trace_defs.specs.Sized.{is_glyph}
 
 abbrev pub is_no_feed : ℕ → Bool
 is_no_feed octet = not (eqb octet 10)

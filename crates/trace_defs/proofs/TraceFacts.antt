@@ -11,17 +11,15 @@ use Rattle.trace_defs.specs.Line.Line.{Blank, Begin, Sync, Setting, Entry}
 use Rattle.trace_defs.specs.Trace.{Progress, Stop, start, add_line, after_line, go_on, read_lines}
 use Rattle.trace_defs.specs.Trace.Stop.{Full}
 use Rattle.trace_defs.specs.Trace.Reading.{Going}
-use Rattle.trace_defs.proofs.LineFacts.{Gives, IsRecord, IsAfter, line_of-after}
-use Rattle.trace_defs.proofs.SettingFacts.{IsRead, IsBefore, empty-read}
+use Rattle.trace_defs.proofs.LineFacts.{Gives, IsAfter, line_of-after}
+use Rattle.trace_defs.specs.Records.{IsRecord, AreRecords}
+use Rattle.trace_defs.proofs.SettingFacts.{IsBefore, empty-read}
+use Rattle.trace_defs.specs.Settings.{IsRead}
 use Rattle.trace_defs.proofs.SettingLines.{line_of-before}
 
 -- the records of all phases
 abbrev pub records_of : Progress → List Record
 records_of p = flat_map (λ phase. phase) p.done ++ p.current
-
-abbrev pub AreRecords : Config → List Record → Type 0
-AreRecords config [] = Unit {0}
-AreRecords config (r ∷ rest) = IsRecord config r × AreRecords config rest
 
 -- how many of them are control records
 abbrev pub controls_in : List Record → ℕ

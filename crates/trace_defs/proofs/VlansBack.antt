@@ -18,7 +18,8 @@ use Rattle.trace_defs.specs.Text.{spaced, other_vlan_word, vlan_lines}
 use Rattle.trace_defs.specs.Trace.{read_lines}
 use Rattle.trace_defs.proofs.Headed.{with-some, unless-next}
 use Rattle.trace_defs.proofs.PlainWords.{line_of-words}
-use Rattle.trace_defs.proofs.PortFacts.{IsWithin, IsConf, IsAmong, among-append, among-map, valid_ports-at}
+use Rattle.trace_defs.proofs.PortFacts.{IsConf, IsAmong, among-append, among-map, valid_ports-at}
+use Rattle.trace_defs.specs.Sized.{IsWithin}
 use Rattle.trace_defs.proofs.SettingWords.{vlan_are_words}
 use Rattle.trace_defs.proofs.SettingsBack.{bare, in_number, before, step}
 

@@ -8,3 +8,6 @@ pub mod Trace
 pub mod Reading
 pub mod Output
 pub mod Entered
+pub mod Sized
+pub mod Records
+pub mod Settings

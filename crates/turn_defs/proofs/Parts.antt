@@ -16,11 +16,14 @@ use Rattle.switch_defs.specs.Turn.{fresh_standing, opened, on_port_of, is_full, 
 use Rattle.switch_defs.specs.Sound.{In, IsSound, HasVlan, confs}
 use Rattle.switch_defs.proofs.Lists.{each_push, of_each}
 use Rattle.switch_defs.proofs.Keeping.{confs_map}
-use Rattle.switch_defs.proofs.Hosts.{stays}
-use Rattle.switch_defs.proofs.Fitting.{AreVlans, MayName, changed_vlan, native_vlan, vlans_close, vlans_placed, vlans_settle}
-use Rattle.switch_defs.proofs.Moving.{Moved, moved_close, moved_open, moved_place, moved_settle, then_moved}
+use Rattle.switch_defs.specs.Moving.{stays}
+use Rattle.switch_defs.proofs.Fitting.{changed_vlan, native_vlan, vlans_close, vlans_placed, vlans_settle}
+use Rattle.switch_defs.specs.Fitting.{AreVlans, MayName}
+use Rattle.switch_defs.proofs.Moving.{moved_close, moved_open, moved_place, moved_settle, then_moved}
+use Rattle.switch_defs.specs.Moving.{Moved}
 use Rattle.table_defs.specs.Table.{Item, Guest}
-use Rattle.table_defs.proofs.Told.{Aside, AreRestricted, HasConf, Speaks, ToldBy, aside_close, aside_none, aside_open, aside_place, aside_settle, aside_then, by_as_before, by_aside, by_no_guests, by_shut, by_then, has_conf, item_by, restricted_sound, speaks}
+use Rattle.table_defs.proofs.Told.{aside_close, aside_none, aside_open, aside_place, aside_settle, aside_then, by_as_before, by_aside, by_no_guests, by_shut, by_then, has_conf, restricted_sound, speaks}
+use Rattle.table_defs.specs.Told.{Aside, AreRestricted, HasConf, Speaks, ToldBy, item_by}
 use Rattle.turn_defs.specs.Parts.{Beside, Near, Notes, TellsOn, armed_if, is_gone}
 
 -- ---- beside the sessions

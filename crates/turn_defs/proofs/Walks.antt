@@ -1,23 +1,21 @@
 -- The sessions, walked by their places in the order, where those that close leave the walk where it is.
-use Rattle.std.proofs.Common.{◌≡◌, ◌++◌, [], ◌∷◌, ℕ, zero, suc, ◌+◌, ◌-◌, ◌<◌, ◌≤◌, Bool, true, false, cond, not, List, Option, None, Some, length, filter, map, drop, refl, sym, ap, subst, ◌∙◌, arith, append_assoc}
+use Rattle.std.proofs.Common.{◌≡◌, ◌++◌, [], ◌∷◌, ℕ, zero, suc, ◌+◌, ◌-◌, Bool, true, false, cond, not, List, None, Some, length, filter, map, drop, refl, sym, ap, subst, ◌∙◌, arith, append_assoc}
 use Rattle.std.specs.Prelude.{◌==◌, ◌||◌, find, slice_get, if◌then◌else◌}
-use Rattle.std.specs.List.{AllByRecursion}
-use Rattle.aaa_defs.specs.declared.Aged.{Aged}
 use Rattle.aaa_defs.specs.Waits.{pending_of}
 use Rattle.aaa_defs.specs.Age.{aged}
-use Rattle.machine_defs.specs.Live as live
 use Rattle.switch_event.specs.Sent.{Sent}
-use Rattle.switch_event.specs.declared.config.PortConf.{PortConf}
-use Rattle.switch_defs.specs.Switch.{Did, Host, Session, Standing, State, and_then, hosts, is_at, is_vlan, on_port}
-use Rattle.switch_defs.specs.Session.{Another, close, close_if, ask_if, follow, forget_if, is_other, place, rested, settle_session, stands_as}
-use Rattle.switch_defs.specs.Turn.{age_request, close_all, each_second, is_given_up, second_by, second_of, set_vars}
+use Rattle.switch_defs.specs.Switch.{Host, Session, Standing, State, hosts, is_at, on_port}
+use Rattle.switch_defs.specs.Session.{Another, close, close_if, ask_if, forget_if, is_other, place, rested, stands_as}
+use Rattle.switch_defs.specs.Turn.{age_request, close_all, each_second, second_by, second_of}
 use Rattle.switch_defs.specs.Sound.{In, here, there, AreApart, AreHosts, HasVlan, confs}
 use Rattle.switch_defs.specs.Laws.{IsBetween}
 use Rattle.switch_defs.proofs.Lists.{in_kept, in_map, key_flip, none_passes, key_same, of_each}
-use Rattle.switch_defs.proofs.Hosts.{stays}
-use Rattle.switch_defs.proofs.Fitting.{AreVlans, vlans_close, vlans_second, vlans_settle}
+use Rattle.switch_defs.specs.Moving.{stays}
+use Rattle.switch_defs.proofs.Fitting.{vlans_close, vlans_second, vlans_settle}
+use Rattle.switch_defs.specs.Fitting.{AreVlans}
 use Rattle.switch_defs.proofs.Moving.{moved_close, moved_settle, moved_to, then_moved}
-use Rattle.table_defs.proofs.Told.{AreRestricted, HasConf, Speaks, aside_close, aside_settle, aside_then}
+use Rattle.table_defs.proofs.Told.{aside_close, aside_settle, aside_then}
+use Rattle.table_defs.specs.Told.{Speaks}
 use Rattle.switch_defs.proofs.Keeping.{kept_second, kept_close}
 use Rattle.switch_defs.proofs.Soundness.{seconds_may_settle}
 use Rattle.std.proofs.lemmas.List.{append-nil}
@@ -25,15 +23,9 @@ use Rattle.machine_vars.specs.declared.vars.Vars.{Vars}
 use Rattle.settle_defs.specs.Settle.{settled}
 use Rattle.turn_defs.specs.Parts.{Beside, Near, is_gone}
 use Rattle.turn_defs.proofs.Parts.{beside_close, beside_settle}
+use Rattle.turn_defs.specs.Walks.{Next, after_closing, is_over, later, next_place}
 
 -- ---- one session among them
-
--- how a session stands a second later, its request aged
-abbrev pub later : Session → State → Standing
-later y s = set_vars (live.Second (is_given_up (aged (pending_of y.host.number s.waits)))) (record y.standing { end_while = y.standing.end_while - 1 })
-
-abbrev pub is_over : Session → State → Bool
-is_over y s = y.standing.end_while == 1 || is_gone (later y s)
 
 -- all others stay as they are
 other_stays : (h : Host) (x : Standing) (z : Session) → is_at h.port h.address z.host ≡ false → stands_as h x z ≡ z
@@ -117,10 +109,6 @@ settled_by false true false h x s = refl
 settled_by false false true h x s = refl
 settled_by false false false h x s = refl
 
--- where the walk is after a session
-abbrev pub next_place : Bool → ℕ → ℕ
-next_place closed n = if closed then n else suc n
-
 behind_settled : (gone : Bool) (n : ℕ) (zs : List Session) (y : Session) (x : Standing) (ys : List Session) → AreApart (map (λ z. z.host) zs) → drop n zs ≡ y ∷ ys →
     drop (next_place gone n) (cond gone (filter (is_other y.host) (map (stands_as y.host x) zs)) (map (stands_as y.host x) zs)) ≡ ys
 behind_settled true n zs y x ys a e =
@@ -196,11 +184,6 @@ seconds_end start n t said w = by w.rest w.count w.state w.sent
     by [] l e k = (e, sym (append-nil said) ∙ k)
     by (y ∷ ys) l e k = absurd (omega (arith, l))
 
--- the next of them
-pub record Next (y : Session) (n : ℕ) (t : State) : Type 0 where
-  pub at : slice_get t.sessions n ≡ Some y
-  pub there : In y t.sessions
-
 got_rest : (n : ℕ) (zs : List Session) (y : Session) (ys : List Session) → drop n zs ≡ y ∷ ys → slice_get zs n ≡ Some y
 got_rest zero zs y ys e = ap (λ (ws : List Session). slice_get ws 0) e
 got_rest (suc n) [] y ys e = cc
@@ -272,10 +255,6 @@ closings_end start port n t w = by w.rest w.count w.state
     by : (ys : List Session) → length ys ≡ 0 → close_all (filter (on_port port) ys) t ≡ close_all (filter (on_port port) start.sessions) start → t ≡ close_all (filter (on_port port) start.sessions) start
     by [] l e = e
     by (y ∷ ys) l e = absurd (omega (arith, l))
-
-abbrev pub after_closing : Bool → Session → State → State
-after_closing true y t = close y.host t
-after_closing false y t = t
 
 pub record ClosingGoes (start : State) (port n left : ℕ) (t : State) : Type 0 where
   pub session : Session

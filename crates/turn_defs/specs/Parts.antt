@@ -4,9 +4,9 @@ use Rattle.settle_defs.specs.Settle.{settled}
 use Rattle.switch_defs.specs.Switch.{Host, Port, Standing, State}
 use Rattle.switch_defs.specs.Session.{armed}
 use Rattle.switch_defs.specs.Decide.{Right}
-use Rattle.switch_defs.proofs.Moving.{Moved}
+use Rattle.switch_defs.specs.Moving.{Moved}
 use Rattle.table_defs.specs.Table.{Item}
-use Rattle.table_defs.proofs.Told.{Aside, Speaks, ToldBy, item_by}
+use Rattle.table_defs.specs.Told.{Aside, Speaks, ToldBy, item_by}
 
 -- whether a session that is settled with this standing is given up
 abbrev pub is_gone : Standing → Bool

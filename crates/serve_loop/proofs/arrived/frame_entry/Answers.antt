@@ -1,5 +1,5 @@
 use Rattle.std.proofs.Common.{arith, sym, ◌∙◌}
-use Rattle.trace_defs.proofs.OctetText.{IsSized}
+use Rattle.trace_defs.specs.Sized.{IsSized}
 use Rattle.serve_loop.proofs.Parts.{a_port}
 use Rattle.serve_loop.proofs.arrived.frame_entry.Goals as goal
 

@@ -9,7 +9,7 @@ use Rattle.table_defs.specs.declared.change.Item.{Item as ItemNow}
 use Rattle.table_defs.specs.declared.change.Item.TheVariants.{Guest}
 use Rattle.table_defs.specs.Table as table
 use Rattle.table_defs.specs.Table.{Item}
-use Rattle.table_defs.proofs.Told.{opens}
+use Rattle.table_defs.specs.Told.{opens}
 use Rattle.switch_ports.proofs.Rows.{before_it, one_more, told_open, told_shut}
 use Rattle.switch_ports.proofs.ports.rows_second.Goals.{then-second, else-second}
 use Rattle.switch_ports.proofs.ports.rows_second.Goals as goal

@@ -2,7 +2,7 @@
 use Rattle.std.proofs.Common.{◌≡◌, ◌+◌, ◌≤◌, ◌++◌, map, take, drop, length}
 use Rattle.table_defs.specs.Change.{item_of}
 use Rattle.switch_defs.specs.Turn.{guest_second}
-use Rattle.table_defs.proofs.Told.{opened_guests}
+use Rattle.table_defs.specs.Told.{opened_guests}
 use Rattle.switch_ports.proofs.ports.rows_second.Given as goal
 
 abbrev pub invariant-loop-row : goal.invariant-loop-row

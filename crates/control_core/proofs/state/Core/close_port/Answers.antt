@@ -5,8 +5,8 @@ use Rattle.switch_defs.specs.Switch.{Session, State, on_port}
 use Rattle.switch_defs.specs.Turn.{close_all, on_port_of}
 use Rattle.switch_defs.specs.Sound.{confs}
 use Rattle.switch_defs.proofs.Keeping.{kept_close_all}
-use Rattle.table_defs.proofs.Told.{HasConf}
-use Rattle.turn_defs.proofs.Walks.{next_place}
+use Rattle.table_defs.specs.Told.{HasConf}
+use Rattle.turn_defs.specs.Walks.{next_place}
 use Rattle.control_core.proofs.Closing.{closed_end, closed_goes, closed_step, may_end}
 use Rattle.control_core.proofs.state.Core.close_port.Goals as goal
 

@@ -13,7 +13,8 @@ use Rattle.switch_defs.specs.Turn.{close_port, control_by, do_control, port_up, 
 use Rattle.switch_defs.specs.Sound.{confs}
 use Rattle.switch_defs.proofs.Keeping.{kept_close_port}
 use Rattle.switch_defs.proofs.Soundness.{sessions_are_few}
-use Rattle.table_defs.proofs.Told.{HasConf, has_conf}
+use Rattle.table_defs.proofs.Told.{has_conf}
+use Rattle.table_defs.specs.Told.{HasConf}
 use Rattle.control_core.specs.declared.state.Core.{Core}
 use Rattle.control_core.specs.Stands.{Holds}
 use Rattle.control_core.specs.Does.{Turns}

@@ -1,6 +1,6 @@
 use Rattle.std.proofs.Common.{◌≡◌, ◌<◌, ◌+◌, ◌*◌, ℕ, length, arith, subst, sym, add-one, ap, ◌∙◌, Bool}
 use Rattle.switch_defs.specs.Switch.{State}
-use Rattle.turn_defs.proofs.Walks.{next_place}
+use Rattle.turn_defs.specs.Walks.{next_place}
 use Rattle.control_core.specs.Stands.{Holds}
 use Rattle.control_core.proofs.Walking.{Comes, Passes, comes_last, comes_next, comes_passes}
 use Rattle.control_core.proofs.state.Core.each_second.Goals as goal

@@ -8,7 +8,8 @@ use Rattle.switch_defs.specs.Sound.{AreApart, HasVlan}
 use Rattle.switch_defs.specs.Turn.{second_of}
 use Rattle.switch_defs.proofs.Lists.{of_each}
 use Rattle.turn_defs.proofs.Parts.{tells_noted}
-use Rattle.turn_defs.proofs.Walks.{is_over, near_second}
+use Rattle.turn_defs.proofs.Walks.{near_second}
+use Rattle.turn_defs.specs.Walks.{is_over}
 use Rattle.control_core.specs.Stands.{Holds}
 use Rattle.control_core.proofs.Passing.{may_tell, passes_on}
 use Rattle.control_core.proofs.Standing.{goes_on, renewed, unauthorised}

@@ -14,7 +14,7 @@ use Rattle.switch_defs.specs.Turn.{up_by}
 use Rattle.switch_defs.specs.Decide.{view}
 use Rattle.switch_defs.proofs.Lists.{in_found}
 use Rattle.switch_defs.proofs.Keeping.{confs_map}
-use Rattle.switch_defs.proofs.Hosts.{stays}
+use Rattle.switch_defs.specs.Moving.{stays}
 use Rattle.table_defs.proofs.Told.{by_none}
 use Rattle.table_defs.specs.declared.change.Item.{Item}
 use Rattle.table_defs.specs.Change.{item_of}

@@ -1,7 +1,7 @@
 use Rattle.std.proofs.Common.{◌≡◌, ◌+◌, ◌<◌, ◌^◌, ap, ◌∙◌, arith, ◌++◌, List, map}
 use Rattle.table_defs.specs.Change.{item_of}
 use Rattle.switch_defs.specs.Switch.{Port, State}
-use Rattle.table_defs.proofs.Told.{opened_guests}
+use Rattle.table_defs.specs.Told.{opened_guests}
 use Rattle.control_core.proofs.Passing.{clock_fits, few_guests, tells_guests}
 use Rattle.control_core.proofs.state.Core.tick.Goals as goal
 

@@ -5,7 +5,8 @@ use Rattle.switch_defs.specs.Sound.{IsSound}
 use Rattle.switch_defs.specs.Turn as model
 use Rattle.switch_defs.proofs.Soundness.{turns_are_sound}
 use Rattle.switch_defs.proofs.Moving.{unmoved}
-use Rattle.table_defs.proofs.Told.{ToldBy, by_none, tells_by}
+use Rattle.table_defs.proofs.Told.{by_none, tells_by}
+use Rattle.table_defs.specs.Told.{ToldBy}
 use Rattle.table_defs.specs.declared.change.Item.{Item}
 use Rattle.table_defs.specs.Change.{item_of}
 use Rattle.control_core.specs.Stands.{MayTurn}
