@@ -8,6 +8,7 @@ use arrayvec::ArrayVec;
 use authenticator::copied_config;
 use control_core::Core;
 use eth_frame::is_control;
+use auth_publish::Viewer;
 use forward_worker::Worker;
 use hex::FromHex;
 use machine_vars::Control;
@@ -78,8 +79,8 @@ struct Desk {
     refused: &'static str,
 }
 
-// A desk and the workers of its book: each call is made once more where it was refused.
-fn open_desk<R: Wait>(rt: &R, alloc: Global) -> Result<(Desk, Vec<Worker>), AllocError>
+// A desk and the viewers of its book: each call is made once more where it was refused.
+fn open_desk<R: Wait>(rt: &R, alloc: Global) -> Result<(Desk, Vec<Viewer>), AllocError>
     ensures config { IfOk result (λ r. r.0.book.config ≡ r.0.settings) }
     ensures room { IfOk result (λ r. most_sessions ≤ r.0.tray.sessions) }
 {
@@ -95,7 +96,7 @@ fn open_desk<R: Wait>(rt: &R, alloc: Global) -> Result<(Desk, Vec<Worker>), Allo
     if !settings.valid() {
         return Err(AllocError);
     }
-    let (book, workers) = match Book::<Core>::open(rt, alloc, copied_config(&settings), 1) {
+    let (book, viewers) = match Book::<Core>::open(rt, alloc, copied_config(&settings), 1) {
         Ok(opened) => opened,
         Err(_) => {
             refused = "open";
@@ -108,7 +109,7 @@ fn open_desk<R: Wait>(rt: &R, alloc: Global) -> Result<(Desk, Vec<Worker>), Allo
         tray,
         refused,
     };
-    Ok((desk, workers))
+    Ok((desk, viewers))
 }
 
 impl Desk {
@@ -161,8 +162,9 @@ fn a_login_is_as_if_nothing_was_refused(rt: HostRuntime) -> Result<(), Fail> {
         vlan: 42,
     };
 
-    let (mut desk, mut workers) = open_desk(&rt, rt.alloc())?;
-    let mut worker = workers.pop().expect(&rt, "a worker");
+    let (mut desk, mut viewers) = open_desk(&rt, rt.alloc())?;
+    let viewer = viewers.pop().expect(&rt, "a viewer");
+    let mut worker = Worker::new(viewer);
     let mut out = ArrayVec::new();
 
     let link = Event::Link { port: 1, up: true };
@@ -199,7 +201,7 @@ fn a_login_is_as_if_nothing_was_refused(rt: HostRuntime) -> Result<(), Fail> {
     assert_eq!(rt; after.decision, stranger);
 
     drop(worker);
-    drop(workers);
+    drop(viewers);
     let Desk {
         mut book,
         settings: _,

@@ -20,7 +20,7 @@ use Rattle.day_defs.specs.Office.{settings}
 use Rattle.day_defs.specs.Day.{Day, dawn, acts_of, after_acts, recorded, recorded_phases}
 use Rattle.day_defs.proofs.Going.{length-acts, recorded-few}
 use Rattle.day_maker.proofs.Coming.{Comes, records-come, phase-acts}
-use Rattle.race_phases.specs.Raced.{RacedBy}
+use Rattle.race_lanes.specs.Raced.{RacedBy}
 use Rattle.day_maker.specs.declared.maker.DayMaker.{DayMaker}
 use Rattle.day_maker.specs.Making as making
 use Rattle.day_load.specs.declared.TheConstants.{LANES, WORKERS}

@@ -2,7 +2,7 @@
 use Rattle.std.specs.Prelude.{◌≡◌, ◌+◌, ◌≤◌, ℕ, List, [], ◌∷◌, length}
 use Rattle.switch_defs.specs.Switch.{State}
 use Rattle.history_defs.specs.Output.{controls_in, records_of}
-use Rattle.race_phases.specs.Raced.{RacedBy}
+use Rattle.race_lanes.specs.Raced.{RacedBy}
 use Rattle.day_defs.specs.declared.Phase.{Phase}
 use Rattle.day_defs.specs.Office.{settings}
 use Rattle.day_defs.specs.Day.{Day, dawn, acts_of, after_acts, recorded_phases}

@@ -4,3 +4,4 @@ pub mod Lanes
 pub mod Workers
 pub mod Lines
 pub mod Standing
+pub mod Raced

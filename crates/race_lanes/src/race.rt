@@ -24,6 +24,7 @@ use crate::lanes::LaneOut;
 use crate::order::{any_failed, merge};
 use crate::phase::run_phase;
 use crate::workers::WorkerJob;
+use auth_publish::Viewer;
 use authenticator::Authenticator;
 use block_list::Blocks;
 use forward_worker::Worker;
@@ -99,17 +100,18 @@ fn lane_outs(alloc: Global, lanes: u8) -> Result<Vec<LaneOut>, AllocError>
 fn worker_jobs<A: Authenticator + Drop>(
     _book: &Book<A>,
     alloc: Global,
-    mut workers: Vec<Worker>,
+    mut viewers: Vec<Viewer>,
     mut jobs: Vec<WorkerJob>,
 ) -> Vec<WorkerJob>
     requires empty { jobs.items ≡ [] }
-    requires room { length workers.items ≤ vec_capacity jobs }
+    requires room { length viewers.items ≤ vec_capacity jobs }
     requires same { All (λ w. (w.name ≡ _book.now.name) × (w.first ≡ opening_table _book.now.config)
-        × (w.list ≡ [])) workers.items }
-    ensures count { length result.items ≡ length workers.items }
+        × (w.list ≡ [])) viewers.items }
+    ensures count { length result.items ≡ length viewers.items }
     ensures names { All (IsFor _book.now.name _book.now.config) result.items }
 {
-    while let Some(worker) = workers.pop() {
+    while let Some(viewer) = viewers.pop() {
+        let worker = Worker::new(viewer);
         let job = WorkerJob::new(alloc, worker);
         jobs.push_reserved(job);
     }

@@ -1,10 +1,10 @@
 -- What a run on lanes and workers gives, and how it ends.
-use Rattle.std.specs.Prelude.{◌≡◌, ℕ, List, Option, MatchOption, length, slice_index_or}
+use Rattle.std.specs.Prelude.{◌≡◌, ℕ, List, Option, MatchOption, slice_index_or}
 use Rattle.switch_event.specs.Config.{Config}
 use Rattle.trace_defs.specs.Line.{Record}
-use Rattle.history_defs.specs.Output.{controls_in, records_of}
 use Rattle.legal_defs.specs.Legal.{IsLegal, IsBegun}
-use Rattle.race_lanes.specs.Standing.{Run, Stands}
+use Rattle.race_lanes.specs.Standing.{Run}
+use Rattle.race_lanes.specs.Raced.{RacedBy}
 use Rattle.race_run.specs.Runs.{Phased}
 use Rattle.race_run.specs.Ending.{RunEnds}
 use Rattle.race_run.specs.declared.ending.Ending.{Ending}
@@ -22,15 +22,6 @@ begun_by lanes workers c phases text = IsBegun c lanes workers phases text
 -- the same, where the lanes and the workers stand in a list
 abbrev pub gave : List ℕ → Phased
 gave numbers = begun_by (slice_index_or numbers 0 0) (slice_index_or numbers 1 0)
-
--- the run on these lanes and workers has printed this text for these phases
-pub record RacedBy (lanes workers : ℕ) (r : Run) (c : Config) (phases : List (List Record))
-    (text : List ℕ) : Type 0 where
-  pub config : r.config ≡ c
-  pub lanes_are : r.lanes ≡ lanes
-  pub workers_are : r.workers ≡ workers
-  pub stands : Stands r phases text
-  pub count : length r.history ≡ controls_in (records_of phases)
 
 abbrev pub HasRaced : InParallel → Phased
 HasRaced p c phases text =

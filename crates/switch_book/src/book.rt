@@ -13,11 +13,10 @@ ghost use Rattle.switch_book.specs.Book.{opened, IsTold, Refuses, RefusesFinish,
 
 use arrayvec::ArrayVec;
 use auth_journal::{Journal, JournalErr};
-use auth_publish::{Publisher, Receipt, open};
+use auth_publish::{Publisher, Receipt, Viewer, open};
 use auth_table::opening;
 use table_defs::Item;
 use authenticator::Authenticator;
-use forward_worker::Worker;
 use out_tray::Tray;
 use std::alloc::{AllocError, Global};
 use std::marker::Model;
@@ -88,14 +87,14 @@ impl<A: Authenticator + Drop> Model for Book<A> {
 }
 
 impl<A: Authenticator + Drop> Book<A> {
-    /// A book of these settings, which are valid, with no entry, and so many workers, 1 to 8. It waits for nobody but where
+    /// A book of these settings, which are valid, with no entry, and a viewer for each of 1 to 8 workers. It waits for nobody but where
     /// it is refused: then it ends what it had made, and nobody is inside.
     pub fn open<R: Wait>(
         rt: &R,
         alloc: Global,
         config: Config,
         workers: usize,
-    ) -> Result<(Book<A>, Vec<Worker>), AllocError>
+    ) -> Result<(Book<A>, Vec<Viewer>), AllocError>
         requires valid { is_valid config ≡ true }
         requires workers { (1 ≤ workers) × (workers ≤ 8) }
         ensures book { IfOk result (λ r. r.0 ≡ opened config r.0.name) }
@@ -107,14 +106,9 @@ impl<A: Authenticator + Drop> Book<A> {
         let second = Box::new(alloc, A::open(alloc, &config)?)?;
         let items = Box::new(alloc, ArrayVec::new())?;
         let journal = Journal::open(alloc)?;
-        let mut all = Vec::with_capacity(alloc, workers)?;
         let table = opening(&config);
         let settings = Box::new(alloc, config)?;
-        let (publisher, mut viewers) = open(rt, alloc, table, workers)?;
-        while let Some(viewer) = viewers.pop() {
-            let worker = Worker::new(viewer);
-            all.push_reserved(worker);
-        }
+        let (publisher, viewers) = open(rt, alloc, table, workers)?;
         let book = Book {
             config: settings,
             journal,
@@ -124,7 +118,7 @@ impl<A: Authenticator + Drop> Book<A> {
             items,
             finished: false,
         };
-        Ok((book, all))
+        Ok((book, viewers))
     }
 
     /// One turn of the authenticator for an event that came on a lane: one entry more in the history, and one change more

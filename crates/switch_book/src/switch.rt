@@ -13,9 +13,9 @@ ghost use Rattle.switch_book.specs.Locked.{Accepted, Admits, Refused, based, fix
 use crate::book::{Answer, Book};
 use crate::open_book::OpenBook;
 use auth_journal::JournalErr;
+use auth_publish::Viewer;
 use authenticator::Authenticator;
 use book_lock::{BookLock, LaneSeat};
-use forward_worker::Worker;
 use out_tray::Tray;
 use std::alloc::{AllocError, Global};
 use std::sync::Wait;
@@ -31,7 +31,7 @@ pub struct Switch<A: Authenticator + Drop> {
 
 impl<A: Authenticator + Drop> Switch<A> {
     /// A book of these settings, which are valid, with no entry, under a lock; a seat for each of 1 to 3 lanes, which are
-    /// numbered from 1 on, in order; and so many workers, 1 to 8. It waits for nobody but where it is refused: then it ends
+    /// numbered from 1 on, in order; and a viewer for each of 1 to 8 workers. It waits for nobody but where it is refused: then it ends
     /// what it had made, and nobody is inside.
     pub fn open<R: Wait>(
         rt: &R,
@@ -39,7 +39,7 @@ impl<A: Authenticator + Drop> Switch<A> {
         config: Config,
         workers: usize,
         lanes: usize,
-    ) -> Result<(Switch<A>, Vec<Lane<A>>, Vec<Worker>), AllocError>
+    ) -> Result<(Switch<A>, Vec<Lane<A>>, Vec<Viewer>), AllocError>
         requires valid { is_valid config ≡ true }
         requires workers { (1 ≤ workers) × (workers ≤ 8) }
         requires lanes { (1 ≤ lanes) × (lanes ≤ 3) }

@@ -4,8 +4,8 @@ use Rattle.event_record.specs.declared.trace_record.TraceRecord.{TraceRecord}
 use Rattle.trace_defs.specs.Entered.{entered, entered_all}
 use Rattle.std.proofs.lemmas.List.{length-map}
 use Rattle.race_run.specs.Runs.{MayRun}
-use Rattle.race_phases.specs.Raced.{RacedBy}
-use Rattle.race_phases.proofs.Racing.{numbers_fit, may_come, controls_fit, raced_more}
+use Rattle.race_lanes.specs.Raced.{RacedBy}
+use Rattle.race_lanes.proofs.Raced.{numbers_fit, may_come, controls_fit, raced_more}
 use Rattle.history_defs.specs.Output.{controls_in, records_of}
 use Rattle.day_defs.specs.Office.{settings}
 use Rattle.day_defs.specs.Day.{dawn, acts_of, recorded_phases}

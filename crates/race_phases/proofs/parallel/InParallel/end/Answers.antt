@@ -1,8 +1,9 @@
 use Rattle.legal_defs.specs.Legal.{IsBegun}
 use Rattle.race_lanes.specs.Standing.{Run}
 use Rattle.race_lanes.proofs.Ending.{err_any}
-use Rattle.race_phases.specs.Raced.{RacedBy}
-use Rattle.race_phases.proofs.Racing.{the_run, raced_begun, ended_legal}
+use Rattle.race_lanes.specs.Raced.{RacedBy}
+use Rattle.race_phases.proofs.Racing.{the_run, ended_legal}
+use Rattle.race_lanes.proofs.Raced.{raced_begun}
 use Rattle.race_phases.proofs.parallel.InParallel.end.Goals as goal
 
 pub returns-in-Some-clause-legal : goal.returns-in-Some-clause-legal

@@ -1,8 +1,9 @@
 use Rattle.std.proofs.Common.{rules, ◌≡◌, Some}
 use Rattle.trace_defs.specs.Entered.{entered_all}
 use Rattle.race_lanes.specs.Standing.{Run}
-use Rattle.race_phases.specs.Raced.{RacedBy}
-use Rattle.race_phases.proofs.Racing.{the_run, numbers_fit, may_come, controls_fit, ran_phase}
+use Rattle.race_lanes.specs.Raced.{RacedBy}
+use Rattle.race_phases.proofs.Racing.{the_run, ran_phase}
+use Rattle.race_lanes.proofs.Raced.{numbers_fit, may_come, controls_fit}
 use Rattle.race_phases.proofs.running.InParallelRunsPhases.run.Goals as goal
 
 pub phase-requires-clause-numbers : goal.phase-requires-clause-numbers
