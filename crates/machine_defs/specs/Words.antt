@@ -19,11 +19,11 @@ period again t = if is_zero again then t.reauth_period else again
 
 -- the event of an answer to a host whose last request had this identifier, under these settings
 abbrev pub event_with : Verdict → (id : ℕ) → Times → Event
-event_with (word.Challenge (Some eap) wait) id t = Challenge eap.now wait
-event_with (word.Challenge None wait) id t = Notice
-event_with (word.Accept (Some eap) finish again) id t =
+event_with (word.Challenge eap wait) id t = Challenge eap.now wait
+event_with word.Notice id t = Notice
+event_with (word.Accept (Some eap) again) id t =
     Accept eap.now (wanted again t) (period again t)
-event_with (word.Accept None finish again) id t =
+event_with (word.Accept None again) id t =
     Accept (canned true id) (wanted again t) (period again t)
 event_with (word.Reject (Some eap)) id t = Reject eap.now
 event_with (word.Reject None) id t = Reject (canned false id)

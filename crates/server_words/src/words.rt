@@ -65,9 +65,15 @@ fn challenged<'a>(packet: &Packet<'a>, eap: Option<&'a [u8]>) -> Told<'a>
     ensures told { IsTold result.verdict }
     ensures state { IfSome result.state (λ octets. length octets.now ≤ 253) }
 {
-    let wait = wait(packet);
+    let verdict = match eap {
+        Some(eap) => Verdict::Challenge {
+            eap,
+            wait: wait(packet),
+        },
+        None => Verdict::Notice,
+    };
     Told {
-        verdict: Verdict::Challenge { eap, wait },
+        verdict,
         vlan: None,
         state: packet.first(STATE),
         end_while: None,
@@ -103,7 +109,7 @@ fn granted<'a>(grant: Grant, eap: Option<&'a [u8]>) -> Told<'a>
     ensures told { IsTold result.verdict }
     ensures state { IfSome result.state (λ octets. length octets.now ≤ 253) }
 {
-    let (timeout_end, timeout_reauth) = match grant.timeout {
+    let (end_while, timeout_reauth) = match grant.timeout {
         Timeout::Unset => (0, 0),
         Timeout::End(n) => (n, 0),
         Timeout::Reauth(n) => (0, n),
@@ -111,12 +117,11 @@ fn granted<'a>(grant: Grant, eap: Option<&'a [u8]>) -> Told<'a>
     Told {
         verdict: Verdict::Accept {
             eap,
-            timeout_end,
             timeout_reauth,
         },
         vlan: Some(grant.vlan),
         state: None,
-        end_while: Some(timeout_end),
+        end_while: Some(end_while),
     }
 }
 

@@ -18,7 +18,6 @@ const BOB: [u8; 8] = [2, 1, 0, 8, 1, 0x62, 0x6f, 0x62];
 
 const ACCEPT: Verdict<'static> = Verdict::Accept {
     eap: None,
-    timeout_end: 0,
     timeout_reauth: 0,
 };
 

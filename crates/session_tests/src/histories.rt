@@ -48,16 +48,12 @@ fn times() -> Times
 fn accepts(eap: &[u8], timeout_reauth: u32) -> Step<'_> {
     Step::Told(Verdict::Accept {
         eap: Some(eap),
-        timeout_end: 0,
         timeout_reauth,
     })
 }
 
 fn challenges(eap: &[u8]) -> Step<'_> {
-    Step::Told(Verdict::Challenge {
-        eap: Some(eap),
-        wait: 0,
-    })
+    Step::Told(Verdict::Challenge { eap, wait: 0 })
 }
 
 const REJECTS: Step<'static> = Step::Told(Verdict::Reject { eap: None });

@@ -115,24 +115,20 @@ impl Pair {
         let success = [3, self.v.current_id, 0, 4];
         let failure = [4, self.v.current_id, 0, 4];
         match *verdict {
-            Verdict::Challenge {
-                eap: Some(eap),
-                wait,
-            } => {
+            Verdict::Challenge { eap, wait } => {
                 if !is_carried(eap) {
                     return false;
                 }
                 challenge(&mut self.v, eap, wait);
                 let _rows = settle(&mut self.v, &mut self.one);
             }
-            Verdict::Challenge { eap: None, .. } => {
+            Verdict::Notice => {
                 notice(&mut self.v);
                 let _rows = settle(&mut self.v, &mut self.one);
             }
             Verdict::Accept {
                 eap,
                 timeout_reauth,
-                ..
             } => {
                 let (again, period) = self.times(timeout_reauth);
                 let eap = eap.unwrap_or(success.as_slice());
@@ -203,7 +199,7 @@ fn is_told(verdict: &Verdict<'_>) -> bool
     ensures { result ≡ true → IsTold verdict.now }
 {
     match *verdict {
-        Verdict::Challenge { eap: Some(eap), .. } => is_carried(eap),
+        Verdict::Challenge { eap, .. } => is_carried(eap),
         Verdict::Accept { eap: Some(eap), .. } => is_carried(eap),
         Verdict::Reject { eap: Some(eap) } => is_carried(eap),
         _ => true,

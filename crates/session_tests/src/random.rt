@@ -122,10 +122,12 @@ fn verdict<'a>(random: &mut Random, eap: &'a [u8]) -> Verdict<'a> {
         random.below(30)
     };
     match random.below(3) {
-        0 => Verdict::Challenge { eap, wait: number },
+        0 => match eap {
+            Some(eap) => Verdict::Challenge { eap, wait: number },
+            None => Verdict::Notice,
+        },
         1 => Verdict::Accept {
             eap,
-            timeout_end: 0,
             timeout_reauth: number,
         },
         _ => Verdict::Reject { eap },

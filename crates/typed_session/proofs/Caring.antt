@@ -269,10 +269,10 @@ cares_of e h k q = let P : Host → Type 0 = λ y. Cares e h y in subst P (sym q
 
 -- an answer of the server takes the request out, whatever it says
 by_known : (v : Verdict) (k : Known) (h : Host) → Cares Notice h (told_by (Some k) v h).host
-by_known (word.Challenge (Some eap) wait) k h = cares (Challenge eap.now wait) h
-by_known (word.Challenge None wait) k h = cares Notice h
-by_known (word.Accept (Some eap) finish again) k h = cares (Accept eap.now (wanted again k.times) (period again k.times)) h
-by_known (word.Accept None finish again) k h = cares (Accept (canned true k.id) (wanted again k.times) (period again k.times)) h
+by_known (word.Challenge eap wait) k h = cares (Challenge eap.now wait) h
+by_known word.Notice k h = cares Notice h
+by_known (word.Accept (Some eap) again) k h = cares (Accept eap.now (wanted again k.times) (period again k.times)) h
+by_known (word.Accept None again) k h = cares (Accept (canned true k.id) (wanted again k.times) (period again k.times)) h
 by_known (word.Reject (Some eap)) k h = cares (Reject eap.now) h
 by_known (word.Reject None) k h = cares (Reject (canned false k.id)) h
 

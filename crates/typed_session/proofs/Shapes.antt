@@ -180,10 +180,10 @@ live_times (addressed l c) = live_times l
 -- ---- an answer of the server
 
 told_ended : (word : Verdict) (id : ℕ) (t : Times) (v : Vars) → move (event_with word id t) (host.Ended (closed_of v)) ≡ after_verdict word (host.Ended (closed_of v))
-told_ended (word.Challenge (Some eap) wait) id t v = refl
-told_ended (word.Challenge None wait) id t v = refl
-told_ended (word.Accept (Some eap) finish again) id t v = refl
-told_ended (word.Accept None finish again) id t v = refl
+told_ended (word.Challenge eap wait) id t v = refl
+told_ended word.Notice id t v = refl
+told_ended (word.Accept (Some eap) again) id t v = refl
+told_ended (word.Accept None again) id t v = refl
 told_ended (word.Reject (Some eap)) id t v = refl
 told_ended (word.Reject None) id t v = refl
 
@@ -204,19 +204,19 @@ proper_period zero t h = h
 proper_period (suc again) t h = omega arith
 
 pub told_proper : (word : Verdict) (v : Vars) → Live v → IsTold word → IsProper (event_of word v) v
-told_proper (word.Challenge (Some eap) wait) v l i = i.0
-told_proper (word.Challenge None wait) v l i = tt
-told_proper (word.Accept (Some eap) finish again) v l i = (i.0, proper_period again v.times (live_times l).period_from)
-told_proper (word.Accept None finish again) v l i = (omega arith, proper_period again v.times (live_times l).period_from)
+told_proper (word.Challenge eap wait) v l i = i.0
+told_proper word.Notice v l i = tt
+told_proper (word.Accept (Some eap) again) v l i = (i.0, proper_period again v.times (live_times l).period_from)
+told_proper (word.Accept None again) v l i = (omega arith, proper_period again v.times (live_times l).period_from)
 told_proper (word.Reject (Some eap)) v l i = i.0
 told_proper (word.Reject None) v l i = omega arith
 
 -- no answer of the server greets a forced port
 pub word_speaks_on : (word : Verdict) (v : Vars) → speaks_on (event_of word v) ≡ true
-word_speaks_on (word.Challenge (Some eap) wait) v = refl
-word_speaks_on (word.Challenge None wait) v = refl
-word_speaks_on (word.Accept (Some eap) finish again) v = refl
-word_speaks_on (word.Accept None finish again) v = refl
+word_speaks_on (word.Challenge eap wait) v = refl
+word_speaks_on word.Notice v = refl
+word_speaks_on (word.Accept (Some eap) again) v = refl
+word_speaks_on (word.Accept None again) v = refl
 word_speaks_on (word.Reject (Some eap)) v = refl
 word_speaks_on (word.Reject None) v = refl
 

@@ -134,10 +134,10 @@ IsCarried eap = (2 ≤ length eap) × (length eap ≤ 1500)
 
 -- an answer has such a packet, or none
 abbrev pub IsTold : Verdict → Type 0
-IsTold (word.Challenge (Some eap) wait) = IsCarried eap.now
-IsTold (word.Challenge None wait) = Unit {0}
-IsTold (word.Accept (Some eap) finish again) = IsCarried eap.now
-IsTold (word.Accept None finish again) = Unit {0}
+IsTold (word.Challenge eap wait) = IsCarried eap.now
+IsTold word.Notice = Unit {0}
+IsTold (word.Accept (Some eap) again) = IsCarried eap.now
+IsTold (word.Accept None again) = Unit {0}
 IsTold (word.Reject (Some eap)) = IsCarried eap.now
 IsTold (word.Reject None) = Unit {0}
 

@@ -23,15 +23,11 @@ pub(crate) fn tell(host: &mut Host, word: &Verdict<'_>, tray: &mut Tray)
         return;
     };
     match *word {
-        Verdict::Challenge {
-            eap: Some(eap),
-            wait,
-        } => challenge(host, eap, wait, tray),
-        Verdict::Challenge { eap: None, .. } => notice(host),
+        Verdict::Challenge { eap, wait } => challenge(host, eap, wait, tray),
+        Verdict::Notice => notice(host),
         Verdict::Accept {
             eap,
             timeout_reauth,
-            ..
         } => {
             let again = wanted(timeout_reauth, &known.times);
             let period = period(timeout_reauth, &known.times);
