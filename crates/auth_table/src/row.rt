@@ -10,12 +10,12 @@ ghost use Rattle.auth_table.specs.Meaning.{ForwardsTagged};
 ghost use Rattle.std.specs.List.{AllByRecursion};
 ghost use Rattle.auth_table.specs.Rows.{HasVlan, entries_of, first_held, right_given, stays};
 
-use switch_event::limit::HOSTS_A_PORT;
-use table_defs::Item;
 use arrayvec::ArrayVec;
 use machine_vars::Control;
 use std::marker::Model;
+use switch_event::limit::HOSTS_A_PORT;
 use switch_event::{Decision, Drop9, PortConf};
+use table_defs::Item;
 use wire_core::Mac;
 
 /// An address that is let in: the number of its session, and its VLAN, 1 to 4094.

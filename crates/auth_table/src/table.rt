@@ -10,15 +10,15 @@ ghost use Rattle.table_defs.specs.Table as model;
 ghost use Rattle.table_defs.specs.Change.{item_of};
 ghost use Rattle.auth_table.specs.Meaning.{ForwardsTagged, row_at};
 
-use wire_defs::ethertype;
-use table_defs::Item;
 use crate::row::PortRow;
 use eth_frame::{EthDrop, Frame};
 use machine_vars::Control;
 use std::array;
 use std::marker::Model;
 use switch_event::{Config, Decision, Drop9, PortConf};
+use table_defs::Item;
 use wire_core::Mac;
+use wire_defs::ethertype;
 
 /// The rows of the table: one for each number of a port from 0 to 60; no port has the number 0.
 const ROWS: usize = 61;

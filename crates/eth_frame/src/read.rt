@@ -40,7 +40,7 @@ pub fn parse(b: &[u8]) -> Result<Frame<'_>, EthDrop>
     Ok(Frame {
         to: Mac([b[0], b[1], b[2], b[3], b[4], b[5]]),
         from: Mac([b[6], b[7], b[8], b[9], b[10], b[11]]),
-        kind: u16::from(b[12]) * 256 + u16::from(b[13]),
+        kind: u16::from_be_bytes([b[12], b[13]]),
         body: &b[14..],
     })
 }

@@ -158,7 +158,7 @@ pub fn parse(b: &[u8]) -> Result<Packet<'_>, RadDrop>
     if b.len() < HEADER_OCTETS {
         return Err(RadDrop::Short);
     }
-    let length = usize::from(b[2]) * 256 + usize::from(b[3]);
+    let length = usize::from(u16::from_be_bytes([b[2], b[3]]));
     if length < HEADER_OCTETS || length > MOST_OCTETS || length > b.len() {
         return Err(RadDrop::BadLength);
     }

@@ -6,11 +6,11 @@ ghost use Rattle.std.specs.Option.Follows.{option_follows_value};
 ghost use Rattle.std.specs.Borrow.{sem};
 ghost use Rattle.session_table.specs.Slots.{IsTable, IsTakenFor, count_on, is_other, is_port, key_at, place_for, places_of, value_at};
 
-use switch_event::limit::{HOSTS_A_PORT, PORTS, SESSIONS};
 use crate::port::{count_in, find_in, free_in};
 use arrayvec::ArrayVec;
 use std::alloc::{AllocError, Global};
 use std::marker::Model;
+use switch_event::limit::{HOSTS_A_PORT, PORTS, SESSIONS};
 use wire_core::Mac;
 
 /// A seventeenth host on a port.
@@ -78,7 +78,7 @@ impl<T: Drop> Slots<T> {
         ensures table { IsTable self.now }
     {
         let hosts = self.hosts.as_slice();
-        if port == 0 || usize::from(port) > PORTS {
+        if port == 0 || port > PORTS {
             return None;
         }
         find_in(hosts, HOSTS_A_PORT * usize::from(port - 1), mac)
@@ -90,7 +90,7 @@ impl<T: Drop> Slots<T> {
         ensures most { result ≤ 16 }
     {
         let hosts = self.hosts.as_slice();
-        if port == 0 || usize::from(port) > PORTS {
+        if port == 0 || port > PORTS {
             return 0;
         }
         count_in(hosts, HOSTS_A_PORT * usize::from(port - 1))

@@ -2,9 +2,9 @@
 
 ghost use Rattle.std.specs.Prelude.{◌≡◌};
 
-use wire_core::fill;
 use arrayvec::ArrayVec;
 use machine_vars::Vars;
+use wire_core::fill;
 
 /// From now on they are as the others.
 pub(crate) fn copy_vars(to: &mut Vars, from: &Vars)

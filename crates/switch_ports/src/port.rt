@@ -10,7 +10,6 @@ ghost use Rattle.switch_defs.specs.Turn.{guest_second};
 ghost use Rattle.table_defs.specs.Told.{opens};
 ghost use Rattle.switch_ports.specs.Ports.{IsForced, settled_to, with_said};
 
-use wire_defs::PAE_GROUP;
 use crate::copy::copy_vars;
 use machine_vars::{Control, Times, Vars};
 use out_tray::Tray;
@@ -18,6 +17,7 @@ use port_machine::{fresh, greet, settle, to_all};
 use std::marker::Model;
 use switch_event::{Config, PortConf};
 use wire_core::Mac;
+use wire_defs::PAE_GROUP;
 
 /// A configured port.
 #[derive(Drop)]

@@ -18,12 +18,12 @@ ghost use Rattle.switch_ports.specs.Index.{place_of};
 
 use crate::port::PortState;
 use arrayvec::ArrayVec;
-use table_defs::Item;
 use machine_vars::{Control, Times};
 use out_tray::Tray;
 use std::alloc::{AllocError, Global};
 use std::marker::Model;
 use switch_event::{Config, PortConf};
+use table_defs::Item;
 use wire_core::Mac;
 
 // One for each number of a port from 0 to 60; no port has the number 0.

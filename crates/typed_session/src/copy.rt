@@ -1,9 +1,9 @@
 ghost use Rattle.std.specs.Prelude.{◌≡◌};
 
-use wire_core::fill;
 use crate::common::octets;
 use crate::host::{Admitted, Asked, Closed, Common, Host, Lapsed, Refused, Served};
 use arrayvec::ArrayVec;
+use wire_core::fill;
 
 impl Common {
     fn copy_from(&mut self, other: &Common)

@@ -13,7 +13,7 @@ pub fn be16(b: &[u8], at: usize) -> Option<u16>
     ensures { result ≡ pair_at b.now at }
 {
     match b.get(at..)? {
-        [high, low, ..] => Some(u16::from(*high) * 256 + u16::from(*low)),
+        [high, low, ..] => Some(u16::from_be_bytes([*high, *low])),
         _ => None,
     }
 }
