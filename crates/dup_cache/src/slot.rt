@@ -1,12 +1,12 @@
 ghost use Rattle.std.specs.Prelude.{◌≡◌, ◌≤◌, [], length, IfOk};
 ghost use Rattle.kept_defs.specs.Kept.{is_repeat};
 
-use wire_core::replace;
 use arrayvec::ArrayVec;
 use kept_defs::KEPT_SECONDS;
 use std::alloc::{AllocError, Global};
 use std::boxed::Box;
 use std::marker::Model;
+use wire_core::replace;
 
 // Room for a request or a reply: 4,096 octets, the most of a packet (RFC 2865, section 3). Its type
 // fixes how many there are: nothing can be reserved beside them.

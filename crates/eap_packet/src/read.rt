@@ -32,7 +32,7 @@ pub fn parse(b: &[u8]) -> Result<Eap<'_>, EapDrop>
         return Err(EapDrop::Short);
     }
     let (code, id) = (b[0], b[1]);
-    let size = usize::from(u16::from_be_bytes([b[2], b[3]]));
+    let size = usize::from(b[2]) * 256 + usize::from(b[3]);
     if code < 1 || code > 4 {
         return Err(EapDrop::BadCode);
     }

@@ -28,7 +28,7 @@ pub fn parse(b: &[u8]) -> Result<Eapol<'_>, EapolDrop>
     };
     let (kind, body): (Kind, &[u8]) = match *number {
         0 => {
-            let size = usize::from(u16::from_be_bytes([*high, *low]));
+            let size = usize::from(*high) * 256 + usize::from(*low);
             if after.len() < size {
                 return Err(EapolDrop::BodyShort);
             }

@@ -3,8 +3,8 @@ ghost use Rattle.arrayvec.specs.ArrayVec.{array_vec_len};
 ghost use Rattle.wire_defs.specs.declared.Kind.TheVariants.{EapPacket};
 ghost use Rattle.wire_defs.specs.Eapol.{EapolOf, eapol_text};
 
-use wire_core::append;
 use arrayvec::ArrayVec;
+use wire_core::append;
 
 // The version that is written, and the type EAP-Packet.
 const VERSION: u8 = 2;

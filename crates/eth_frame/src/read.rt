@@ -3,9 +3,8 @@ ghost use Rattle.wire_defs.specs.Ethernet.{Frame as Fields, EthOf, eth_of, is_co
 ghost use Rattle.wire_defs.specs.declared.EthDrop.{EthDrop as Drop};
 ghost use Rattle.eth_frame.specs.Frame.{meaning};
 
-use wire_defs::ethertype;
 use wire_core::Mac;
-use wire_defs::EthDrop;
+use wire_defs::{EthDrop, ethertype};
 
 // The least and the most octets of a frame, without a frame check sequence.
 const LEAST: usize = 14;

@@ -4,10 +4,10 @@ ghost use Rattle.wire_defs.specs.Number.{two_octets as two_octets_lem};
 ghost use Rattle.wire_defs.specs.Ethernet.{IsFrame, EthOf, plain_text, tagged_text, tagged};
 ghost use Rattle.eth_frame.specs.Frame.{fields, fields_from};
 
-use wire_defs::ethertype;
 use crate::Frame;
 use arrayvec::ArrayVec;
 use wire_core::{Mac, append};
+use wire_defs::ethertype;
 
 /// Replaces `out` by the octets of a frame. The body has at most 1,504 octets.
 pub fn write_plain(to: Mac, from: Mac, kind: u16, body: &[u8], out: &mut ArrayVec<u8, 1518>)

@@ -8,13 +8,13 @@ ghost use Rattle.radius_defs.specs.declared.attribute.TheConstants.{EAP_MESSAGE}
 ghost use Rattle.radius_defs.specs.declared.limit.TheConstants.{MOST_VALUE};
 ghost use Rattle.radius_packet.specs.Views.{attribute, value_in};
 
-use wire_core::append;
 use crate::attributes::{Attributes, broken_at};
 use arrayvec::ArrayVec;
 use radius_defs::RadDrop;
 use radius_defs::attribute::EAP_MESSAGE;
 use radius_defs::limit::{HEADER_OCTETS, MOST_OCTETS};
 use std::marker::Model;
+use wire_core::append;
 
 /// A packet that was read, where it lies. Contracts see its code, identifier, authenticator and
 /// list of attributes.
@@ -158,7 +158,7 @@ pub fn parse(b: &[u8]) -> Result<Packet<'_>, RadDrop>
     if b.len() < HEADER_OCTETS {
         return Err(RadDrop::Short);
     }
-    let length = usize::from(u16::from_be_bytes([b[2], b[3]]));
+    let length = usize::from(b[2]) * 256 + usize::from(b[3]);
     if length < HEADER_OCTETS || length > MOST_OCTETS || length > b.len() {
         return Err(RadDrop::BadLength);
     }
