@@ -3,7 +3,7 @@ use Rattle.std.specs.Prelude.{ℕ, List, Option, Result, Ok, Err}
 use Rattle.std.specs.Borrow.{Bor}
 use Rattle.std.specs.Option.{option_map}
 use Rattle.arrayvec.specs.ArrayVec.{ArrayVec}
-use Rattle.aaa_defs.specs.declared.AaaDrop.{AaaDrop}
+use Rattle.switch_event.specs.declared.drop.AaaDrop.{AaaDrop}
 use Rattle.aaa_defs.specs.Waits.{Pending}
 use Rattle.aaa_defs.specs.Answer.{Taking}
 use Rattle.aaa_client.specs.declared.answer.Taken.{Taken}

@@ -9,13 +9,14 @@ ghost use Rattle.radius_defs.specs.Digest.{response_auth as auth_lem};
 ghost use Rattle.aaa_defs.specs.declared.TheConstants.{MOST_EAP};
 ghost use Rattle.aaa_client.specs.Meaning.{octets_in};
 
-use aaa_defs::{AaaDrop, MOST_EAP};
+use aaa_defs::MOST_EAP;
 use arrayvec::ArrayVec;
 use eap_packet::parse as parse_eap;
 use radius_attrs::{Ma, message_state};
 use radius_auth::response_auth;
 use radius_defs::code::{ACCESS_ACCEPT, ACCESS_CHALLENGE, ACCESS_REJECT};
 use radius_packet::Packet;
+use switch_event::AaaDrop;
 
 /// An answer that was taken.
 #[derive(Drop)]

@@ -13,8 +13,9 @@ mod tests;
 mod vectors;
 mod waits;
 
-pub use aaa_defs::{AaaDrop, Aged};
+pub use aaa_defs::Aged;
 pub use answer::Taken;
 pub use pending::Pending;
 pub use request::Ask;
+pub use switch_event::AaaDrop;
 pub use waits::Waits;

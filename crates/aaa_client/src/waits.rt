@@ -14,11 +14,11 @@ use crate::answer::{Taken, checked};
 use crate::order::{Entry, Order};
 use crate::pending::{Pending, socket_and_id};
 use crate::request::Ask;
-use aaa_defs::{AaaDrop, Aged, IDENTIFIERS, MOST_WAITING, NAMES};
+use aaa_defs::{Aged, IDENTIFIERS, MOST_WAITING, NAMES};
 use radius_packet::parse;
 use std::alloc::{AllocError, Global};
 use std::marker::Model;
-use switch_event::Config;
+use switch_event::{AaaDrop, Config};
 
 /// The requests that wait for an answer, at most 960 at once and one for a session, and the name
 /// that was used last. A name is a socket and an identifier.

@@ -7,7 +7,7 @@ use Rattle.wire_defs.specs.Number.{pair}
 use Rattle.wire_defs.specs.Eap.{eap_of as eap_packet_of, fields_of, is_bad_length, is_code}
 use Rattle.radius_defs.specs.Packet.{Packet, eap_of}
 use Rattle.radius_defs.specs.Parsed.{packet_of}
-use Rattle.aaa_defs.specs.declared.AaaDrop.{AaaDrop}
+use Rattle.switch_event.specs.declared.drop.AaaDrop.{AaaDrop}
 use Rattle.aaa_defs.specs.Waits.{Pending, Waits, name_of, pending_under}
 use Rattle.aaa_defs.specs.Answer.{Taking, answered, answered_by, answered_in, taken_from, checks, first_failed, eap_carried, carried_in, has_eap, may_carry}
 

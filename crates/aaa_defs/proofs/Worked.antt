@@ -7,7 +7,7 @@ use Rattle.radius_defs.specs.Packet.{attributes_text}
 use Rattle.radius_defs.specs.Digest.{zeros}
 use Rattle.switch_event.specs.Config.{empty}
 use Rattle.aaa_defs.specs.declared.Aged.TheVariants.{Quiet, Resend, GaveUp}
-use Rattle.aaa_defs.specs.declared.AaaDrop.TheVariants.{BadCode, BadAuthenticator}
+use Rattle.switch_event.specs.declared.drop.AaaDrop.TheVariants.{BadCode, BadAuthenticator}
 use Rattle.rand_core.specs.Steps.{u32_at}
 use Rattle.rand_chacha.specs.Block.{block_word, double_rounds, column_round, diagonal_round, quarter_round}
 use Rattle.aaa_defs.specs.Request.{Ask, authenticator, pieces, request_attributes}

@@ -12,8 +12,8 @@ use Rattle.radius_defs.specs.Packet.{Packet, packet_text, first_value, eap_of}
 use Rattle.radius_defs.specs.Parsed.{packet_of}
 use Rattle.radius_defs.specs.Digest.{response_auth}
 use Rattle.radius_defs.specs.Message.{message_state_of}
-use Rattle.aaa_defs.specs.declared.AaaDrop.{AaaDrop}
-use Rattle.aaa_defs.specs.declared.AaaDrop.TheVariants.{Malformed, NoRequest, BadCode, BadAuthenticator, BadMessageAuth, Oversize, BadEap}
+use Rattle.switch_event.specs.declared.drop.AaaDrop.{AaaDrop}
+use Rattle.switch_event.specs.declared.drop.AaaDrop.TheVariants.{Malformed, NoRequest, BadCode, BadAuthenticator, BadMessageAuth, Oversize, BadEap}
 use Rattle.aaa_defs.specs.declared.TheConstants.{MOST_EAP}
 use Rattle.aaa_defs.specs.Waits.{Pending, Waits, name_of, pending_under}
 
@@ -61,16 +61,6 @@ checks p auth secret require =
     ∷ (nat_lt MOST_EAP (length (eap_of p.attributes)), Oversize)  -- 6. IEEE Std 802.3, 3.2.7
     ∷ (has_eap p && is_none (eap_carried p), BadEap)  -- 7. RFC 3579, section 2.1
     ∷ []
-
--- the number of the check that failed
-abbrev pub line_number : AaaDrop → ℕ
-line_number Malformed = 1
-line_number NoRequest = 2
-line_number BadCode = 3
-line_number BadAuthenticator = 4
-line_number BadMessageAuth = 5
-line_number Oversize = 6
-line_number BadEap = 7
 
 -- the first check that fails
 abbrev pub first_failed : List (Bool × AaaDrop) → Option AaaDrop

@@ -1,10 +1,7 @@
 //! The definitions of a RADIUS client that contracts cite: the request that it sends, the requests
 //! that wait for an answer, the checks of an answer, and when a request is sent again or given up.
-//! They stand in specs/; here are the plain enums that they speak of.
+//! They stand in specs/; here are the numbers and the plain enum that they speak of.
 #![tactic(auto)]
-
-ghost use Rattle.std.specs.Prelude.{◌≡◌};
-ghost use Rattle.aaa_defs.specs.Answer.{line_number};
 
 /// The most octets of an EAP packet that a frame to a host has room for (RFC 3580, section 3.10).
 pub const MOST_EAP: usize = 1496;
@@ -23,43 +20,6 @@ pub const NAMES: usize = 1024;
 
 /// How many requests may wait at once.
 pub const MOST_WAITING: usize = 960;
-
-/// Why an answer of the server is dropped; the first that applies (RFC 2865, section 3; RFC 3579,
-/// section 3.2).
-#[derive(Clone, Copy, Debug, PartialEq, Eq)]
-pub enum AaaDrop {
-    /// The octets are no RADIUS packet.
-    Malformed,
-    /// No request is pending under the identifier.
-    NoRequest,
-    /// The code is not Access-Accept, Access-Reject or Access-Challenge.
-    BadCode,
-    /// The authenticator is not that of an answer to the request.
-    BadAuthenticator,
-    /// The Message-Authenticator is wrong, or there is none beside EAP.
-    BadMessageAuth,
-    /// The EAP packet has more than 1,496 octets.
-    Oversize,
-    /// The EAP is no Request in a Challenge, or no Success or Failure in an Accept or a Reject.
-    BadEap,
-}
-
-impl AaaDrop {
-    /// The number of the check that failed, from 1 to 7, in the order of the checks.
-    pub fn line(self) -> u8
-        ensures { result ≡ line_number self }
-    {
-        match self {
-            AaaDrop::Malformed => 1,
-            AaaDrop::NoRequest => 2,
-            AaaDrop::BadCode => 3,
-            AaaDrop::BadAuthenticator => 4,
-            AaaDrop::BadMessageAuth => 5,
-            AaaDrop::Oversize => 6,
-            AaaDrop::BadEap => 7,
-        }
-    }
-}
 
 /// What a second does to a session's pending request.
 #[derive(Clone, Copy, Debug, PartialEq, Eq)]

@@ -12,7 +12,7 @@ use Rattle.kept_defs.specs.Kept.{Entry}
 use Rattle.switch_event.specs.Config.{Config, Client}
 use Rattle.wire_core.specs.declared.address.Addr.{Addr}
 use Rattle.dynauth_defs.specs.declared.TheConstants.{MOST_REQUEST}
-use Rattle.dynauth_defs.specs.declared.DynDrop.TheVariants.{Stranger, Malformed}
+use Rattle.switch_event.specs.declared.drop.DynDrop.TheVariants.{Stranger, Malformed}
 use Rattle.dynauth_defs.specs.declared.Action.{Action}
 use Rattle.dynauth_defs.specs.Session.{Row, matching}
 use Rattle.dynauth_defs.specs.Judge.{Judged, Drop, Again, Nak, Ack, is_dynamic, client_of, with, first_line, lines, done, judged, action_on}

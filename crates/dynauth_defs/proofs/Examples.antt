@@ -10,7 +10,7 @@ use Rattle.radius_defs.specs.Message.{message_state_of, with_message}
 use Rattle.radius_defs.specs.declared.Ma.TheVariants.{Right}
 use Rattle.switch_event.specs.Config.{Config, empty}
 use Rattle.wire_core.specs.declared.address.Addr.{Addr}
-use Rattle.dynauth_defs.specs.declared.DynDrop.TheVariants.{Stranger, BadCode, BadMessageAuth, Stale}
+use Rattle.switch_event.specs.declared.drop.DynDrop.TheVariants.{Stranger, BadCode, BadMessageAuth, Stale}
 use Rattle.dynauth_defs.specs.declared.Action.TheVariants.{Disconnect, Change}
 use Rattle.dynauth_defs.specs.Session.{Row, fits}
 use Rattle.dynauth_defs.specs.Judge.{Judged, Drop, Again, Nak, Ack, judged}

@@ -19,8 +19,8 @@ use Rattle.kept_defs.specs.Kept.{Entry, newest_reply}
 use Rattle.switch_event.specs.Config.{Config, Client, Nas}
 use Rattle.wire_core.specs.declared.address.Addr.{Addr}
 use Rattle.dynauth_defs.specs.declared.TheConstants.{MOST_REQUEST}
-use Rattle.dynauth_defs.specs.declared.DynDrop.{DynDrop}
-use Rattle.dynauth_defs.specs.declared.DynDrop.TheVariants.{Stranger, Malformed, Oversize, BadCode, BadAuthenticator, BadMessageAuth, Stale}
+use Rattle.switch_event.specs.declared.drop.DynDrop.{DynDrop}
+use Rattle.switch_event.specs.declared.drop.DynDrop.TheVariants.{Stranger, Malformed, Oversize, BadCode, BadAuthenticator, BadMessageAuth, Stale}
 use Rattle.dynauth_defs.specs.declared.Action.{Action}
 use Rattle.dynauth_defs.specs.declared.Action.TheVariants.{Disconnect, Change}
 use Rattle.dynauth_defs.specs.Session.{Row, matching}
@@ -172,13 +172,3 @@ judged config kept now rows from octets =
     with (client_of from.ip config.clients kept) (Drop Stranger) (λ (client, replies).  -- 1
     with (packet_of octets) (Drop Malformed) (λ p.  -- 2
     first_line (lines config client replies now rows from.port p) (done p (matching p.attributes rows))))  -- 3 to 18, 19
-
--- the line at which a request is dropped
-abbrev pub line_number : DynDrop → ℕ
-line_number Stranger = 1
-line_number Malformed = 2
-line_number Oversize = 3
-line_number BadCode = 4
-line_number BadAuthenticator = 5
-line_number BadMessageAuth = 6
-line_number Stale = 8

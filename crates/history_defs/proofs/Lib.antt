@@ -1,5 +1,4 @@
 pub mod OutputLemmas
 pub mod PlaceLemmas
-pub mod Outcomes
 mod Worked
 mod Limits

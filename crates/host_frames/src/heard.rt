@@ -4,24 +4,16 @@ ghost use Rattle.wire_defs.specs.Ethernet.{is_control, pae_group, is_group as is
 ghost use Rattle.wire_defs.specs.Eapol.{eapol_of};
 ghost use Rattle.wire_defs.specs.Eap.{eap_of};
 ghost use Rattle.switch_defs.specs.Switch.{Port, State, own_address};
-ghost use Rattle.switch_defs.specs.Turn.{frame_case, eapol_case, eap_case, eapol_line as eapol_line_lem, eap_line as eap_line_lem};
+ghost use Rattle.switch_defs.specs.Turn.{frame_case, eapol_case, eap_case, eapol_reason as eapol_reason_lem, eap_reason as eap_reason_lem};
 ghost use Rattle.host_frames.specs.Heard.{case_of, IsShort};
 
 use wire_defs::PAE_GROUP;
+use switch_event::FrameDrop;
 use wire_core::Mac;
 use wire_defs::{EapDrop, EapolDrop, Kind};
 
 // The code of a Response (RFC 3748, 4.1).
 const RESPONSE: u8 = 2;
-
-// The lines of the list for frames.
-const ELSEWHERE: u8 = 1;
-
-const GROUP_SOURCE: u8 = 2;
-
-const DOWN: u8 = 3;
-
-const NOT_RESPONSE: u8 = 11;
 
 /// What a host says (IEEE Std 802.1X-2004, 7.5.4).
 #[derive(Clone, Copy, Debug, PartialEq, Eq)]
@@ -45,11 +37,8 @@ pub struct Heard<'a> {
 
 /// Reads a frame of EAPOL that came in on a port of this address, whose link is up or not.
 ///
-/// Errors: the line at which it is dropped: 1 where it is for another address, 2 where its source is
-/// a group, 3 where the link is down; 4 short, 5 a key, 6 of another type, 7 with a body that ends
-/// before its length (IEEE Std 802.1X-2004, 7.5); 8 an EAP packet that is short, 9 of another code,
-/// 10 of another length (RFC 3748, 4), 11 one that is no Response.
-pub fn read<'a>(own: Mac, up: bool, octets: &'a [u8]) -> Result<Heard<'a>, u8>
+/// Errors: the first reason of [`FrameDrop`] that applies, from `Elsewhere` to `NotResponse`.
+pub fn read<'a>(own: Mac, up: bool, octets: &'a [u8]) -> Result<Heard<'a>, FrameDrop>
     requires { is_control octets.now ≡ true }
     ensures case { (s : State) (q : Port) → own_address s q.conf.port ≡ own.0 → q.link ≡ up →
         frame_case s octets.now (Some q) ≡ case_of s q result }
@@ -59,13 +48,13 @@ pub fn read<'a>(own: Mac, up: bool, octets: &'a [u8]) -> Result<Heard<'a>, u8>
         unreachable!()
     };
     if is_elsewhere(own, frame.to) {
-        return Err(ELSEWHERE);
+        return Err(FrameDrop::Elsewhere);
     }
     if is_group(frame.from) {
-        return Err(GROUP_SOURCE);
+        return Err(FrameDrop::GroupSource);
     }
     if !up {
-        return Err(DOWN);
+        return Err(FrameDrop::Down);
     }
     read_eapol(frame.from, frame.body)
 }
@@ -85,14 +74,14 @@ fn is_group(address: Mac) -> bool
 }
 
 // Reads the body of a frame.
-fn read_eapol<'a>(from: Mac, body: &'a [u8]) -> Result<Heard<'a>, u8>
+fn read_eapol<'a>(from: Mac, body: &'a [u8]) -> Result<Heard<'a>, FrameDrop>
     requires { length body.now ≤ 1504 }
     ensures case { (s : State) (q : Port) →
         eapol_case s q from.0 (eapol_of body.now) ≡ case_of s q result }
     ensures short { IfOk result (λ h. IsShort h.said) }
 {
     match eapol_frame::parse(body) {
-        Err(drop) => Err(eapol_line(drop)),
+        Err(drop) => Err(eapol_reason(drop)),
         Ok(eapol) => match eapol.kind {
             Kind::Start => Ok(Heard {
                 from,
@@ -108,39 +97,39 @@ fn read_eapol<'a>(from: Mac, body: &'a [u8]) -> Result<Heard<'a>, u8>
 }
 
 // Reads the body of an EAPOL packet that carries an EAP packet.
-fn read_eap<'a>(from: Mac, body: &'a [u8]) -> Result<Heard<'a>, u8>
+fn read_eap<'a>(from: Mac, body: &'a [u8]) -> Result<Heard<'a>, FrameDrop>
     requires { length body.now ≤ 1500 }
     ensures case { (s : State) (q : Port) →
         eap_case s q from.0 (eap_of body.now) ≡ case_of s q result }
     ensures short { IfOk result (λ h. IsShort h.said) }
 {
     match eap_packet::parse(body) {
-        Err(drop) => Err(eap_line(drop)),
+        Err(drop) => Err(eap_reason(drop)),
         Ok(eap) if eap.code == RESPONSE => Ok(Heard {
             from,
             said: Said::Packet(eap.whole),
         }),
-        Ok(_other) => Err(NOT_RESPONSE),
+        Ok(_other) => Err(FrameDrop::NotResponse),
     }
 }
 
-fn eapol_line(drop: EapolDrop) -> u8
-    ensures { result ≡ eapol_line_lem drop }
+fn eapol_reason(drop: EapolDrop) -> FrameDrop
+    ensures { result ≡ eapol_reason_lem drop }
 {
     match drop {
-        EapolDrop::Short => 4,
-        EapolDrop::Key => 5,
-        EapolDrop::UnknownType => 6,
-        EapolDrop::BodyShort => 7,
+        EapolDrop::Short => FrameDrop::EapolShort,
+        EapolDrop::Key => FrameDrop::Key,
+        EapolDrop::UnknownType => FrameDrop::EapolType,
+        EapolDrop::BodyShort => FrameDrop::BodyShort,
     }
 }
 
-fn eap_line(drop: EapDrop) -> u8
-    ensures { result ≡ eap_line_lem drop }
+fn eap_reason(drop: EapDrop) -> FrameDrop
+    ensures { result ≡ eap_reason_lem drop }
 {
     match drop {
-        EapDrop::Short => 8,
-        EapDrop::BadCode => 9,
-        EapDrop::BadLength => 10,
+        EapDrop::Short => FrameDrop::EapShort,
+        EapDrop::BadCode => FrameDrop::EapCode,
+        EapDrop::BadLength => FrameDrop::EapLength,
     }
 }

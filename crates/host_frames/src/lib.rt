@@ -1,5 +1,5 @@
-//! What a frame of a host says to the port that it comes in on, or the line at which it is dropped
-//! before the port's control is looked at. No call takes memory.
+//! What a frame of a host says to the port that it comes in on, or why it is dropped before the
+//! port's control is looked at. No call takes memory.
 #![tactic(auto)]
 
 mod heard;

@@ -3,6 +3,7 @@
 use crate::{Heard, Said, read};
 use eth_frame::is_control;
 use std::test::Fail;
+use switch_event::FrameDrop;
 use wire_core::Mac;
 
 const OWN: Mac = Mac([2, 0, 0, 1, 1, 1]);
@@ -22,7 +23,7 @@ fn frame(to: [u8; 6], from: [u8; 6], body: &[u8], rt: HostRuntime) -> Result<Vec
 }
 
 // What is heard; none where the octets are no frame of EAPOL.
-fn hear(octets: &[u8], up: bool) -> Option<Result<Heard<'_>, u8>> {
+fn hear(octets: &[u8], up: bool) -> Option<Result<Heard<'_>, FrameDrop>> {
     if !is_control(octets) {
         return None;
     }
@@ -33,7 +34,7 @@ fn hear(octets: &[u8], up: bool) -> Option<Result<Heard<'_>, u8>> {
 fn line(body: &[u8], up: bool, rt: HostRuntime) -> Result<u8, Fail> {
     let octets = frame(GROUP, HOST.0, body, rt)?;
     match hear(octets.as_slice(), up) {
-        Some(Err(line)) => Ok(line),
+        Some(Err(drop)) => Ok(drop.line()),
         _ => Ok(0),
     }
 }
@@ -67,9 +68,9 @@ fn a_start_a_logoff_and_a_response_are_heard(rt: HostRuntime) -> Result<(), Fail
 #[test]
 fn each_line_comes_before_the_next(rt: HostRuntime) -> Result<(), Fail> {
     let elsewhere = frame([2, 0, 0, 1, 1, 2], GROUP, &[1], rt)?;
-    assert_eq!(rt; hear(elsewhere.as_slice(), false), Some(Err(1)));
+    assert_eq!(rt; hear(elsewhere.as_slice(), false), Some(Err(FrameDrop::Elsewhere)));
     let group = frame(GROUP, GROUP, &[1], rt)?;
-    assert_eq!(rt; hear(group.as_slice(), false), Some(Err(2)));
+    assert_eq!(rt; hear(group.as_slice(), false), Some(Err(FrameDrop::GroupSource)));
     assert_eq!(rt; line(&[1], false, rt)?, 3);
     assert_eq!(rt; line(&[1, 3, 0], true, rt)?, 4);
     assert_eq!(rt; line(&[1, 3, 0, 0], true, rt)?, 5);

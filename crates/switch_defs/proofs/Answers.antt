@@ -20,7 +20,7 @@ use Rattle.radius_defs.specs.Packet.{Packet, eap_of}
 use Rattle.radius_defs.specs.Parsed.{packet_of}
 use Rattle.radius_defs.specs.Attributes.{first_number, tunnel_of, timeout_of, timeout_from, is_one}
 use Rattle.radius_defs.specs.Grant.{grant_from, grant_of}
-use Rattle.aaa_defs.specs.declared.AaaDrop.{AaaDrop}
+use Rattle.switch_event.specs.declared.drop.AaaDrop.{AaaDrop}
 use Rattle.aaa_defs.specs.Waits.{Pending, Waits, name_of, pending_under}
 use Rattle.aaa_defs.specs.Answer.{Taking, has_eap, may_carry, carried_in, eap_carried, first_failed, checks, taken_from, answered_by, answered_in, answered}
 use Rattle.switch_defs.specs.Switch.{Session, State, port_of, session_numbered}
@@ -186,7 +186,7 @@ said_proper t native times k v r l =
 -- ---- an answer is of a session that there is, and proper
 
 abbrev pub IsFit : State → Answered → Type 0
-IsFit s (Refused check) = Unit {0}
+IsFit s (Refused why) = Unit {0}
 IsFit s (Told y what) = In y s.sessions × IsProper (event_of what.word) y.standing.vars
 
 told_fits : (s : State) (t : Taking) (o : Option Session) → session_numbered t.session s ≡ o → InRange s.config.times → IsLong t.eap → IsFit s (told s t o)

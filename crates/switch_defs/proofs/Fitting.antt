@@ -21,7 +21,7 @@ use Rattle.radius_defs.specs.Attributes.{is_tagged, without_tag, vlan_of, tunnel
 use Rattle.radius_defs.specs.Grant.{grant_from, grant_of}
 use Rattle.radius_defs.specs.Packet.{Packet, first_value}
 use Rattle.radius_defs.specs.Parsed.{packet_of}
-use Rattle.aaa_defs.specs.declared.AaaDrop.{AaaDrop}
+use Rattle.switch_event.specs.declared.drop.AaaDrop.{AaaDrop}
 use Rattle.aaa_defs.specs.declared.Aged.{Aged}
 use Rattle.aaa_defs.specs.Waits.{pending_of}
 use Rattle.aaa_defs.specs.Age.{aged}
@@ -52,7 +52,7 @@ abbrev AreGuests : List Port → Type 0
 AreGuests ps = AllByRecursion MayHaveGuests ps
 
 guests_frame : (s : State) (k : FrameCase) → AreGuests s.ports → AreGuests (do_frame s k).state.ports
-guests_frame s (Dropped line) g = g
+guests_frame s (Dropped why) g = g
 guests_frame s (Forces q from) g = guests_map (with_forced q.conf.port _) (λ p h. record { while = h.while; shut = h.shut }) s.ports g
 guests_frame s (Opens q from) g =
     (kept_settle Another (opened s q from) (fresh_standing s q from) (with_session (opened s q from) (fresh_standing s q from) s)).guests ((kept_open (opened s q from) (fresh_standing s q from) s).guests g)
@@ -141,7 +141,7 @@ native_vlan s n q a e =
     valid_vlans s.config a.valid q.conf (subst (λ (cs : List PortConf). In q.conf cs) a.confs i)
 
 vlans_frame : {turns : ℕ} (s : State) (k : FrameCase) → Fits s k → IsSound turns s → AreVlans (do_frame s k).state.sessions
-vlans_frame s (Dropped line) f a = a.vlans
+vlans_frame s (Dropped why) f a = a.vlans
 vlans_frame s (Forces q from) f a = a.vlans
 vlans_frame s (Opens q from) f a =
     let h : Host = opened s q from in
@@ -211,7 +211,7 @@ open_native s n None a e p = absurd p
 open_native s n (Some q) a e p = native_vlan s n q a e
 
 abbrev pub SaysVlan : Answered → Type 0
-SaysVlan (Refused check) = Unit {0}
+SaysVlan (Refused why) = Unit {0}
 SaysVlan (Told y what) = is_vlan what.kept.vlan ≡ true
 
 told_vlan : {turns : ℕ} (s : State) (t : Taking) (o : Option Session) → session_numbered t.session s ≡ o → IsSound turns s → SaysVlan (told s t o)
@@ -229,7 +229,7 @@ pub answer_vlan : {turns : ℕ} (s : State) (socket : ℕ) (octets : List ℕ) �
 answer_vlan s socket octets a = told_by_vlan s (answered s.waits socket octets s.config.secret s.config.require_ma) a
 
 vlans_answer : (s : State) (k : Answered) → SaysVlan k → AreVlans s.sessions → AreVlans (do_answer s k).state.sessions
-vlans_answer s (Refused check) v a = a
+vlans_answer s (Refused why) v a = a
 vlans_answer s (Told y said) v a = vlans_settle AnAnswer y.host (stands said y.standing) (forget y.host s) v a
 
 -- ---- what a request names

@@ -204,7 +204,7 @@ pub kept_forget : (h : Host) (s : State) → Kept 0 0 s (forget h s)
 kept_forget h s = kept_forget_if true h s
 
 pub kept_answer : (s : State) (k : Answered) → Kept 1 0 s (do_answer s k).state
-kept_answer s (Refused check) = kept_weaker (omega arith) (omega arith) kept_none
+kept_answer s (Refused why) = kept_weaker (omega arith) (omega arith) kept_none
 kept_answer s (Told y said) = kept_then {k = 0} {l = 1} {n = 0} {m = 0} (kept_forget y.host s) (kept_settle AnAnswer y.host (stands said y.standing) (forget y.host s))
 
 kept_disconnected : (o : Option Session) (s : State) → Kept 0 0 s (disconnected o s).state

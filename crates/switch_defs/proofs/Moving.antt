@@ -88,13 +88,13 @@ moved_open s q from free room = record {
 }
 
 moved_frame : (s : State) (k : FrameCase) → Fits s k → Moved s (do_frame s k).state
-moved_frame s (Dropped line) f = unmoved
+moved_frame s (Dropped why) f = unmoved
 moved_frame s (Forces q from) f = record { by = stays }
 moved_frame s (Opens q from) f = then_moved (moved_open s q from f.2 f.3) (moved_settle Another (opened s q from) (fresh_standing s q from) (with_session (opened s q from) (fresh_standing s q from) s))
 moved_frame s (Turns y e) f = moved_settle (cause_of e) y.host (set_vars e y.standing) s
 
 moved_answer : (s : State) (a : Answered) → Moved s (do_answer s a).state
-moved_answer s (Refused check) = unmoved
+moved_answer s (Refused why) = unmoved
 moved_answer s (Told y said) = then_moved (record { by = stays }) (moved_settle AnAnswer y.host (stands said y.standing) (forget y.host s))
 
 moved_disconnected : (o : Option Session) (s : State) → Moved s (disconnected o s).state

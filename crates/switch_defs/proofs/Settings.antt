@@ -12,7 +12,7 @@ use Rattle.switch_defs.specs.Turn.{FrameCase, Dropped, Forces, Opens, Turns, fra
 use Rattle.switch_defs.proofs.Keeping.{kept_settle, kept_answer, kept_request, kept_each, kept_close_port}
 
 config_frame : (s : State) (k : FrameCase) → (do_frame s k).state.config ≡ s.config
-config_frame s (Dropped line) = refl
+config_frame s (Dropped why) = refl
 config_frame s (Forces q from) = refl
 config_frame s (Opens q from) = (kept_settle Another (opened s q from) (fresh_standing s q from) (with_session (opened s q from) (fresh_standing s q from) s)).config
 config_frame s (Turns y e) = (kept_settle (cause_of e) y.host (set_vars e y.standing) s).config
@@ -54,7 +54,7 @@ config_turn s (SetControl port c) = config_control c (port_of port s) s
 -- ---- replies
 
 replies_frame : (s : State) (k : FrameCase) → length (do_frame s k).state.kept ≡ length s.kept
-replies_frame s (Dropped line) = refl
+replies_frame s (Dropped why) = refl
 replies_frame s (Forces q from) = refl
 replies_frame s (Opens q from) = (kept_settle Another (opened s q from) (fresh_standing s q from) (with_session (opened s q from) (fresh_standing s q from) s)).replies
 replies_frame s (Turns y e) = (kept_settle (cause_of e) y.host (set_vars e y.standing) s).replies

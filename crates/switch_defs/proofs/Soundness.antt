@@ -87,7 +87,7 @@ greeted s q p from u f d a i h =
 
 steps_frame : (s : State) (k : FrameCase) → Fits s k → AreDistinct s.ports → AreHosts (hosts s) s.next → AreHosts (hosts (do_frame s k).state) (do_frame s k).state.next → AllByRecursion IsPort s.ports → ArePlaced s →
     Steps 1 s (do_frame s k).state
-steps_frame s (Dropped line) f d a b i p = steps_weaker (omega arith) (of_kept (kept_none {s = s}) (omega arith) i p)
+steps_frame s (Dropped why) f d a b i p = steps_weaker (omega arith) (of_kept (kept_none {s = s}) (omega arith) i p)
 steps_frame s (Forces q from) f d a b i p =
     let v = live.to_all (settled (live.set (live.Greeting from) q.forced)).vars in
     record {
@@ -448,7 +448,7 @@ opened_length [] y = refl
 opened_length (x ∷ ys) y = ap suc (opened_length ys y)
 
 may_frame : (turns : ℕ) (s : State) (k : FrameCase) → Fits s k → IsSound turns s → MayFrame s k
-may_frame n s (Dropped line) f a = tt
+may_frame n s (Dropped why) f a = tt
 may_frame n s (Forces q from) f a =
     let k : IsPort q = of_each IsPort a.ports (in_found (is_port q.conf.port) s.ports q f.0.here).0 in
     turns (live.Greeting from) k.live (ap is_auto (k.control f.1 f.0.link) ∙ f.1)
@@ -469,7 +469,7 @@ pub frames_may_settle : FramesMaySettle
 frames_may_settle n s port octets a = may_frame n s (frame_case s octets (port_of port s)) (fits_frame s port octets) a
 
 may_answers : (turns : ℕ) (s : State) (k : Answered) → IsFit s k → IsSound turns s → MayAnswer s k
-may_answers n s (Refused check) f a = tt
+may_answers n s (Refused why) f a = tt
 may_answers n s (Told y said) f a = record { hosts = a.hosts; few = sessions_are_few n s a; settle = may_answer y said s f.0 f.1 a.hosts a.rests }
 
 pub answers_may_settle : AnswersMaySettle

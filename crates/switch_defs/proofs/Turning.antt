@@ -175,7 +175,7 @@ may_event y e s i f r =
     may_turn e s.waits y s (set_vars e y.standing) refl (host_in i) (rests_but r) rest (proper_of y.standing.vars f) (fine_between e s.waits y (comes_of f) (proper_of y.standing.vars f) rest)
 
 pub rests_frame : (s : State) (k : FrameCase) → Fits s k → AreHosts (hosts s) s.next → Rests s.waits s.sessions → InRange s.config.times → Rests (do_frame s k).state.waits (do_frame s k).state.sessions
-rests_frame s (Dropped line) f a r t = r
+rests_frame s (Dropped why) f a r t = r
 rests_frame s (Forces q from) f a r t = r
 rests_frame s (Opens q from) f a r t =
     let m = may_open s q from a r t in
@@ -201,7 +201,7 @@ may_answer y said s i p a r =
     (fine_free (is_some (pending_of y.host.number (forgotten y.host.number s.waits))) _ (ap is_some (forgotten-none y.host.number s.waits)) (asks_of (event_of said.word) s.waits y rest p))
 
 pub rests_answer : (s : State) (k : Answered) → IsFit s k → AreHosts (hosts s) s.next → Rests s.waits s.sessions → Rests (do_answer s k).state.waits (do_answer s k).state.sessions
-rests_answer s (Refused check) f a r = r
+rests_answer s (Refused why) f a r = r
 rests_answer s (Told y said) f a r =
     settle_rests AnAnswer y.host (stands said y.standing) (forget y.host s) (only_one a (host_in f.0)) (may_answer y said s f.0 f.1 a r)
 

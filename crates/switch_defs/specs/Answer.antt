@@ -1,8 +1,8 @@
 -- An answer of the server that was taken: what it says to the session that asked (RFC 2865, section 4; RFC 3580, section 3).
 use Rattle.std.specs.Prelude.{ℕ, List, Option, None, Some, Result, Ok, Err}
 use Rattle.machine_defs.specs.Live.{Event, set, Challenge, Notice, Accept, Reject}
-use Rattle.aaa_defs.specs.declared.AaaDrop.{AaaDrop}
-use Rattle.aaa_defs.specs.declared.AaaDrop.TheVariants.{Malformed, NoRequest, BadCode, BadAuthenticator, BadMessageAuth, Oversize, BadEap}
+use Rattle.switch_event.specs.declared.drop.AaaDrop.{AaaDrop}
+use Rattle.switch_event.specs.declared.drop.AaaDrop.TheVariants.{NoRequest}
 use Rattle.aaa_defs.specs.Answer.{Taking, answered}
 use Rattle.aaa_defs.specs.Said.{Said, Word, Kept, said}
 use Rattle.aaa_defs.specs.Said as word
@@ -34,28 +34,18 @@ says s t y = said t (native_of (port_of y.host.port s)) s.config.times y.standin
 
 -- ---- the checks
 
--- the number of the first failed check
-abbrev pub check_number : AaaDrop → ℕ
-check_number Malformed = 1
-check_number NoRequest = 2
-check_number BadCode = 3
-check_number BadAuthenticator = 4
-check_number BadMessageAuth = 5
-check_number Oversize = 6
-check_number BadEap = 7
-
 -- the first failed check, or the session that asked with what it is told
 pub data Answered : Type 0 where
-  Refused : (check : ℕ) → Answered
+  Refused : (drop : AaaDrop) → Answered
   Told : Session → Said → Answered
 
 -- each request is of a session that there is
 abbrev pub told : State → Taking → Option Session → Answered
-told s t None = Refused 2
+told s t None = Refused NoRequest
 told s t (Some y) = Told y (says s t y)
 
 abbrev pub told_by : State → Result Taking AaaDrop → Answered
-told_by s (Err drop) = Refused (check_number drop)
+told_by s (Err drop) = Refused drop
 told_by s (Ok t) = told s t (session_numbered t.session s)
 
 abbrev pub answered_on : State → (socket : ℕ) → List ℕ → Answered

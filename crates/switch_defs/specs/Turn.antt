@@ -22,10 +22,12 @@ use Rattle.aaa_defs.specs.declared.Aged.{Aged}
 use Rattle.aaa_defs.specs.declared.Aged.TheVariants.{Quiet, Resend, GaveUp}
 use Rattle.aaa_defs.specs.Waits.{Pending, pending_of}
 use Rattle.aaa_defs.specs.Age.{aged, after_aging}
+use Rattle.switch_event.specs.declared.drop.FrameDrop.{FrameDrop}
+use Rattle.switch_event.specs.declared.drop.FrameDrop.TheVariants.{Elsewhere, GroupSource, Down, EapolShort, Key as IsKey, EapolType, BodyShort as EapolBodyShort, EapShort, EapCode, EapLength, NotResponse, Forced, NoSession, PortFull}
 use Rattle.switch_event.specs.declared.event.Outcome.TheVariants.{Done, FrameDropped, AnswerDropped, Acked, Naked, Again, RequestDropped}
 use Rattle.wire_core.specs.declared.address.Addr.{Addr}
 use Rattle.switch_event.specs.Event.{Happening, Frame, Radius, Dynamic, Second, Link, SetControl}
-use Rattle.dynauth_defs.specs.Judge.{Judged, Drop, Again as RepeatOf, Nak, Ack, line_number}
+use Rattle.dynauth_defs.specs.Judge.{Judged, Drop, Again as RepeatOf, Nak, Ack}
 use Rattle.switch_event.specs.Sent.{Sent, ToHost, ToClient}
 use Rattle.switch_event.specs.Frames.{eap_frame, frames}
 use Rattle.switch_defs.specs.Switch.{Port, Host, Standing, Session, State, Did, Turned, turned, and_then, only, own_address, is_port, port_of, session_at, on_port, most_hosts}
@@ -33,10 +35,10 @@ use Rattle.switch_defs.specs.Session.{Cause, AnAnswer, ALogoff, Another, arm, no
 use Rattle.switch_defs.specs.Answer.{Answered, Refused, Told, stands, answered_on}
 use Rattle.switch_defs.specs.Dynamic.{say_failure, act, reply, judged_on}
 
--- ---- frames: the line at which one is dropped, or what it does
+-- ---- frames: why one is dropped, or what it does
 
 pub data FrameCase : Type 0 where
-  Dropped : (line : ℕ) → FrameCase
+  Dropped : (why : FrameDrop) → FrameCase
   Forces : (port : Port) → (from : List ℕ) → FrameCase
   Opens : (port : Port) → (from : List ℕ) → FrameCase
   Turns : (session : Session) → (event : live.Event) → FrameCase
@@ -57,37 +59,37 @@ on_port_of n s = filter (on_port n) s.sessions
 abbrev pub is_full : ℕ → State → Bool
 is_full n s = nat_le most_hosts (length (on_port_of n s))
 
--- lines 13 and 14: no-session, port-full
+-- 13. a Logoff without a session, 14. a port that has all its sessions
 abbrev pub known_case : State → Port → List ℕ → live.Event → Option Session → FrameCase
 known_case s q from e (Some y) = Turns y e
 known_case s q from e None =
-    if is_logoff e then Dropped 13
-    else if is_full q.conf.port s then Dropped 14
+    if is_logoff e then Dropped NoSession
+    else if is_full q.conf.port s then Dropped PortFull
     else Opens q from
 
--- line 12: forced
+-- 12. a forced port answers a Start alone
 abbrev pub control_case : State → Port → List ℕ → live.Event → FrameCase
 control_case s q from e =
     if is_auto q.control then known_case s q from e (session_at q.conf.port from s)
     else if is_start e then Forces q from
-    else Dropped 12
+    else Dropped Forced
 
--- lines 8 to 10: eap-short, eap-code, eap-length (RFC 3748, section 4); line 11: not-response
-abbrev pub eap_line : EapDrop → ℕ
-eap_line ShortEap = 8
-eap_line BadCode = 9
-eap_line BadLength = 10
+-- 8. to 10. the octets are no EAP packet (RFC 3748, section 4), 11. it is no Response
+abbrev pub eap_reason : EapDrop → FrameDrop
+eap_reason ShortEap = EapShort
+eap_reason BadCode = EapCode
+eap_reason BadLength = EapLength
 
 abbrev pub eap_case : State → Port → List ℕ → Result Eap EapDrop → FrameCase
-eap_case s q from (Err drop) = Dropped (eap_line drop)
-eap_case s q from (Ok eap) = if eap.code == 2 then control_case s q from (live.Packet eap.whole) else Dropped 11
+eap_case s q from (Err drop) = Dropped (eap_reason drop)
+eap_case s q from (Ok eap) = if eap.code == 2 then control_case s q from (live.Packet eap.whole) else Dropped NotResponse
 
--- lines 4 to 7: eapol-short, key, eapol-type, body-short (IEEE Std 802.1X-2004, 7.5)
-abbrev pub eapol_line : EapolDrop → ℕ
-eapol_line ShortEapol = 4
-eapol_line Key = 5
-eapol_line UnknownType = 6
-eapol_line BodyShort = 7
+-- 4. to 7. the octets are no EAPOL packet that is heard (IEEE Std 802.1X-2004, 7.5)
+abbrev pub eapol_reason : EapolDrop → FrameDrop
+eapol_reason ShortEapol = EapolShort
+eapol_reason Key = IsKey
+eapol_reason UnknownType = EapolType
+eapol_reason BodyShort = EapolBodyShort
 
 abbrev pub kind_case : State → Port → List ℕ → (body : List ℕ) → Kind → FrameCase
 kind_case s q from body EapPacket = eap_case s q from (eap_of body)
@@ -95,19 +97,20 @@ kind_case s q from body Start = control_case s q from live.Start
 kind_case s q from body Logoff = control_case s q from live.Logoff
 
 abbrev pub eapol_case : State → Port → List ℕ → Result Eapol EapolDrop → FrameCase
-eapol_case s q from (Err drop) = Dropped (eapol_line drop)
+eapol_case s q from (Err drop) = Dropped (eapol_reason drop)
 eapol_case s q from (Ok eapol) = kind_case s q from eapol.body eapol.kind
 
--- lines 1 to 3: elsewhere (IEEE Std 802.1X-2004, 7.8), group-source, down; a port that is not configured is down
+-- 1. it is for another address (IEEE Std 802.1X-2004, 7.8), 2. its source is a group, 3. its port is down; one that is not configured
+-- is down
 abbrev pub is_elsewhere : State → ℕ → List ℕ → Bool
 is_elsewhere s n octets = not (bytes_eq (destination octets) pae_group || bytes_eq (destination octets) (own_address s n))
 
 abbrev pub frame_case : State → List ℕ → Option Port → FrameCase
-frame_case s octets None = Dropped 3
+frame_case s octets None = Dropped Down
 frame_case s octets (Some q) =
-    if is_elsewhere s q.conf.port octets then Dropped 1
-    else if is_group (source octets) then Dropped 2
-    else if not q.link then Dropped 3
+    if is_elsewhere s q.conf.port octets then Dropped Elsewhere
+    else if is_group (source octets) then Dropped GroupSource
+    else if not q.link then Dropped Down
     else eapol_case s q (source octets) (eapol_of (drop 14 octets))
 
 -- ---- ports, with one value changed
@@ -167,7 +170,7 @@ cause_of live.Logoff = ALogoff
 cause_of _ = Another
 
 abbrev pub do_frame : State → FrameCase → Turned
-do_frame s (Dropped line) = turned (FrameDropped line) (only s)
+do_frame s (Dropped why) = turned (FrameDropped why) (only s)
 do_frame s (Forces q from) = turned Done (settle_port q.conf.port (set (live.Greeting from) q.forced) s)
 do_frame s (Opens q from) = turned Done (open_session s q from)
 do_frame s (Turns y e) = turned Done (settle_session (cause_of e) y.host (set_vars e y.standing) s)
@@ -176,13 +179,13 @@ do_frame s (Turns y e) = turned Done (settle_session (cause_of e) y.host (set_va
 
 -- an answer that is taken ends the request
 abbrev pub do_answer : State → Answered → Turned
-do_answer s (Refused check) = turned (AnswerDropped check) (only s)
+do_answer s (Refused why) = turned (AnswerDropped why) (only s)
 do_answer s (Told y said) = turned Done (settle_session AnAnswer y.host (stands said y.standing) (forget y.host s))
 
 -- ---- dynamic requests: what is done, and then the reply
 
 abbrev pub do_request : State → Addr → List ℕ → Judged → Turned
-do_request s from octets (Drop reason) = turned (RequestDropped (line_number reason)) (only s)
+do_request s from octets (Drop why) = turned (RequestDropped why) (only s)
 do_request s from octets (RepeatOf again) = turned Again (record { state = s; sent = ToClient from again ∷ [] })
 do_request s from octets (Nak cause) = turned (Naked cause) (reply octets (Some cause) from s)
 do_request s from octets (Ack action) = turned Acked (and_then (act action s) (reply octets None from))

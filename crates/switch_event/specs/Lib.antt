@@ -1,4 +1,5 @@
 pub mod Config
+pub mod Drop
 pub mod Event
 pub mod Sent
 pub mod Frames

@@ -1,5 +1,6 @@
 ghost use Rattle.std.specs.Prelude.{◌≡◌};
 
+use crate::drop::{AaaDrop, DynDrop, FrameDrop};
 use machine_vars::Control;
 use wire_core::Addr;
 
@@ -25,16 +26,16 @@ pub enum Event<'a> {
 pub enum Outcome {
     /// It was done.
     Done,
-    /// The frame was dropped at this line of the list for frames.
-    FrameDropped(u8),
-    /// The datagram of the RADIUS server was dropped at this line of the list for answers.
-    AnswerDropped(u8),
+    /// The frame was dropped.
+    FrameDropped(FrameDrop),
+    /// The datagram of the RADIUS server was dropped.
+    AnswerDropped(AaaDrop),
     /// The dynamic request was done.
     Acked,
     /// The dynamic request was refused with this Error-Cause (RFC 5176, 3.5).
     Naked(u32),
     /// The dynamic request was a repeat, and got the reply that was kept.
     Again,
-    /// The dynamic request was dropped at this line of the list for dynamic requests.
-    RequestDropped(u8),
+    /// The dynamic request was dropped.
+    RequestDropped(DynDrop),
 }

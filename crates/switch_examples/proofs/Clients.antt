@@ -11,6 +11,7 @@ use Rattle.aaa_defs.specs.Waits.{next_name}
 use Rattle.machine_vars.specs.declared.control.Control.TheVariants.{Auto, ForceAuth, ForceUnauth}
 use Rattle.switch_event.specs.Config.{Config, empty}
 use Rattle.switch_event.specs.Event.{Frame, Radius, Dynamic, Second, Link}
+use Rattle.switch_event.specs.declared.drop.DynDrop.TheVariants as request
 use Rattle.switch_event.specs.declared.event.Outcome.TheVariants.{Done, Acked, Naked, Again, RequestDropped}
 use Rattle.switch_event.specs.declared.decision.Decision.TheVariants.{Forward}
 use Rattle.switch_event.specs.Sent.{ToHost, ToServer, ToClient}
@@ -561,7 +562,7 @@ too_old : told (opening settings_2)
     ++ codes "77313d060000000f2c0a30303030303030314f0a0201000801626f62")) ∷ [])
     ∷ turned Done (ToHost 1 (octets (codes "0200000000aa020000010101888e0200000403010004")) ∷ [])
     ∷ decided (Forward 1 42)
-    ∷ turned (RequestDropped 8) ([])
+    ∷ turned (RequestDropped request.Stale) ([])
     ∷ []
 unfolding settled pieces request_octets next_name packet_of attributes_of run_within first_attribute authenticator u32_at
     block_word double_rounds column_round diagonal_round quarter_round md5 digest_bytes hash_after compress rounds block_words
@@ -586,7 +587,7 @@ too_new : told (opening settings_2)
     ++ codes "77313d060000000f2c0a30303030303030314f0a0201000801626f62")) ∷ [])
     ∷ turned Done (ToHost 1 (octets (codes "0200000000aa020000010101888e0200000403010004")) ∷ [])
     ∷ decided (Forward 1 42)
-    ∷ turned (RequestDropped 8) ([])
+    ∷ turned (RequestDropped request.Stale) ([])
     ∷ []
 unfolding settled pieces request_octets next_name packet_of attributes_of run_within first_attribute authenticator u32_at
     block_word double_rounds column_round diagonal_round quarter_round md5 digest_bytes hash_after compress rounds block_words
@@ -611,7 +612,7 @@ a_stranger : told (opening settings_2)
     ++ codes "77313d060000000f2c0a30303030303030314f0a0201000801626f62")) ∷ [])
     ∷ turned Done (ToHost 1 (octets (codes "0200000000aa020000010101888e0200000403010004")) ∷ [])
     ∷ decided (Forward 1 42)
-    ∷ turned (RequestDropped 1) ([])
+    ∷ turned (RequestDropped request.Stranger) ([])
     ∷ []
 unfolding settled pieces request_octets next_name packet_of attributes_of run_within first_attribute authenticator u32_at
     block_word double_rounds column_round diagonal_round quarter_round md5 digest_bytes hash_after compress rounds block_words
@@ -636,7 +637,7 @@ signed_twice : told (opening settings_2)
     ++ codes "77313d060000000f2c0a30303030303030314f0a0201000801626f62")) ∷ [])
     ∷ turned Done (ToHost 1 (octets (codes "0200000000aa020000010101888e0200000403010004")) ∷ [])
     ∷ decided (Forward 1 42)
-    ∷ turned (RequestDropped 6) ([])
+    ∷ turned (RequestDropped request.BadMessageAuth) ([])
     ∷ []
 unfolding settled pieces request_octets next_name packet_of attributes_of run_within first_attribute authenticator u32_at
     block_word double_rounds column_round diagonal_round quarter_round md5 digest_bytes hash_after compress rounds block_words

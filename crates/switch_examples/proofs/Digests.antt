@@ -11,6 +11,7 @@ use Rattle.aaa_defs.specs.Waits.{next_name}
 use Rattle.switch_event.specs.Config.{Config}
 use Rattle.wire_core.specs.declared.address.Addr.{Addr}
 use Rattle.switch_event.specs.Event.{Radius, Dynamic, Link}
+use Rattle.switch_event.specs.declared.drop.AaaDrop.TheVariants as answer
 use Rattle.switch_event.specs.declared.event.Outcome.TheVariants.{AnswerDropped}
 use Rattle.switch_event.specs.declared.decision.Decision.TheVariants.{Forward}
 use Rattle.switch_event.specs.Sent.{ToServer, ToClient}
@@ -49,16 +50,16 @@ unfolding settled pieces request_octets next_name packet_of attributes_of run_wi
 the_accept_authorises = refl
 
 -- nothing waits under its name at another socket, nor a second time
-at_another_socket : (turn asked (Radius 1 accept)).outcome ≡ AnswerDropped 2
+at_another_socket : (turn asked (Radius 1 accept)).outcome ≡ AnswerDropped answer.NoRequest
 unfolding settled pieces request_octets next_name packet_of attributes_of run_within first_attribute authenticator u32_at block_word double_rounds column_round diagonal_round quarter_round md5 digest_bytes hash_after compress rounds block_words
 at_another_socket = refl
 
-a_second_time : (turn (turn asked (Radius 0 accept)).state (Radius 0 accept)).outcome ≡ AnswerDropped 2
+a_second_time : (turn (turn asked (Radius 0 accept)).state (Radius 0 accept)).outcome ≡ AnswerDropped answer.NoRequest
 unfolding settled pieces request_octets next_name packet_of attributes_of run_within first_attribute authenticator u32_at block_word double_rounds column_round diagonal_round quarter_round md5 digest_bytes hash_after compress rounds block_words
 a_second_time = refl
 
 -- one octet of the authenticator is another
-with_another_authenticator : (turn asked (Radius 0 (2 ∷ 0 ∷ 0 ∷ 60 ∷ 229 ∷ 215 ∷ 134 ∷ 128 ∷ 163 ∷ 72 ∷ 179 ∷ 138 ∷ 155 ∷ 190 ∷ 75 ∷ 211 ∷ 90 ∷ 56 ∷ 209 ∷ 107 ∷ 64 ∷ 6 ∷ 0 ∷ 0 ∷ 0 ∷ 13 ∷ 65 ∷ 6 ∷ 0 ∷ 0 ∷ 0 ∷ 6 ∷ 81 ∷ 4 ∷ 52 ∷ 50 ∷ 79 ∷ 6 ∷ 3 ∷ 1 ∷ 0 ∷ 4 ∷ 80 ∷ 18 ∷ 24 ∷ 17 ∷ 58 ∷ 2 ∷ 93 ∷ 116 ∷ 69 ∷ 102 ∷ 110 ∷ 144 ∷ 182 ∷ 246 ∷ 116 ∷ 43 ∷ 60 ∷ 191 ∷ []))).outcome ≡ AnswerDropped 4
+with_another_authenticator : (turn asked (Radius 0 (2 ∷ 0 ∷ 0 ∷ 60 ∷ 229 ∷ 215 ∷ 134 ∷ 128 ∷ 163 ∷ 72 ∷ 179 ∷ 138 ∷ 155 ∷ 190 ∷ 75 ∷ 211 ∷ 90 ∷ 56 ∷ 209 ∷ 107 ∷ 64 ∷ 6 ∷ 0 ∷ 0 ∷ 0 ∷ 13 ∷ 65 ∷ 6 ∷ 0 ∷ 0 ∷ 0 ∷ 6 ∷ 81 ∷ 4 ∷ 52 ∷ 50 ∷ 79 ∷ 6 ∷ 3 ∷ 1 ∷ 0 ∷ 4 ∷ 80 ∷ 18 ∷ 24 ∷ 17 ∷ 58 ∷ 2 ∷ 93 ∷ 116 ∷ 69 ∷ 102 ∷ 110 ∷ 144 ∷ 182 ∷ 246 ∷ 116 ∷ 43 ∷ 60 ∷ 191 ∷ []))).outcome ≡ AnswerDropped answer.BadAuthenticator
 unfolding settled pieces request_octets next_name packet_of attributes_of run_within first_attribute authenticator u32_at block_word double_rounds column_round diagonal_round quarter_round md5 digest_bytes hash_after compress rounds block_words
 with_another_authenticator = refl
 

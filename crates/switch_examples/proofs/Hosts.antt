@@ -11,6 +11,8 @@ use Rattle.aaa_defs.specs.Waits.{next_name}
 use Rattle.machine_vars.specs.declared.control.Control.TheVariants.{Auto, ForceAuth, ForceUnauth}
 use Rattle.switch_event.specs.Config.{Config, empty}
 use Rattle.switch_event.specs.Event.{Frame, Radius, Second, Link}
+use Rattle.switch_event.specs.declared.drop.FrameDrop.TheVariants as frame
+use Rattle.switch_event.specs.declared.drop.AaaDrop.TheVariants as answer
 use Rattle.switch_event.specs.declared.event.Outcome.TheVariants.{Done, FrameDropped, AnswerDropped}
 use Rattle.switch_event.specs.declared.decision.Decision.TheVariants.{Forward, Drop}
 use Rattle.switch_event.specs.declared.decision.Drop9.TheVariants.{Unauthorised}
@@ -264,7 +266,7 @@ nobody_answers : told (opening settings_1)
     ∷ turned Done ([])
     ∷ turned Done ([])
     ∷ turned Done ([])
-    ∷ turned (FrameDropped 13) ([])
+    ∷ turned (FrameDropped frame.NoSession) ([])
     ∷ []
 unfolding settled pieces request_octets next_name packet_of attributes_of run_within first_attribute authenticator u32_at
     block_word double_rounds column_round diagonal_round quarter_round md5 digest_bytes hash_after compress rounds block_words
@@ -511,7 +513,7 @@ a_logoff_of_a_stranger : told (opening settings_1)
     ∷ control (Frame 1 (octets (codes "0180c20000030200000000aa888e01020000")))
     ∷ [])
     ≡ turned Done (ToHost 1 (octets (codes "0180c2000003020000010101888e020000050100000501")) ∷ [])
-    ∷ turned (FrameDropped 13) ([])
+    ∷ turned (FrameDropped frame.NoSession) ([])
     ∷ []
 unfolding settled pieces request_octets next_name packet_of attributes_of run_within first_attribute authenticator u32_at
     block_word double_rounds column_round diagonal_round quarter_round md5 digest_bytes hash_after compress rounds block_words
@@ -535,7 +537,7 @@ a_link_goes_down : told (opening settings_1)
     ++ codes "77313d060000000f2c0a30303030303030314f0a0201000801626f62")) ∷ [])
     ∷ turned Done ([])
     ∷ turned Done (ToHost 1 (octets (codes "0180c2000003020000010101888e020000050100000501")) ∷ [])
-    ∷ turned (AnswerDropped 2) ([])
+    ∷ turned (AnswerDropped answer.NoRequest) ([])
     ∷ []
 unfolding settled pieces request_octets next_name packet_of attributes_of run_within first_attribute authenticator u32_at
     block_word double_rounds column_round diagonal_round quarter_round md5 digest_bytes hash_after compress rounds block_words

@@ -9,6 +9,7 @@ use Rattle.dynauth_defs.specs.declared.Action.TheVariants.{Disconnect, Change}
 use Rattle.aaa_defs.specs.Request.{pieces, unsigned_request}
 use Rattle.aaa_defs.specs.Waits.{next_name, socket_of, identifier_of, name_of}
 use Rattle.switch_event.specs.Event.{Happening, Frame, Second, Link}
+use Rattle.switch_event.specs.declared.drop.FrameDrop.TheVariants as frame
 use Rattle.switch_event.specs.declared.event.Outcome.TheVariants.{FrameDropped}
 use Rattle.switch_event.specs.declared.decision.Decision.TheVariants.{Forward, Drop}
 use Rattle.switch_event.specs.declared.decision.Drop9.TheVariants.{Unauthorised}
@@ -261,7 +262,7 @@ start_of n = Frame 1 (eapol (host n) (1 ∷ 1 ∷ 0 ∷ 0 ∷ []))
 abbrev sixteen : State
 sixteen = run up_1 (map start_of (1 ∷ 2 ∷ 3 ∷ 4 ∷ 5 ∷ 6 ∷ 7 ∷ 8 ∷ 9 ∷ 10 ∷ 11 ∷ 12 ∷ 13 ∷ 14 ∷ 15 ∷ 16 ∷ []))
 
-a_seventeenth_finds_no_place : (turn sixteen (start_of 17)).outcome ≡ FrameDropped 14
+a_seventeenth_finds_no_place : (turn sixteen (start_of 17)).outcome ≡ FrameDropped frame.PortFull
 unfolding settled
 a_seventeenth_finds_no_place = refl
 

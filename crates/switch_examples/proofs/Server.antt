@@ -11,6 +11,7 @@ use Rattle.aaa_defs.specs.Waits.{next_name}
 use Rattle.machine_vars.specs.declared.control.Control.TheVariants.{Auto, ForceAuth, ForceUnauth}
 use Rattle.switch_event.specs.Config.{Config, empty}
 use Rattle.switch_event.specs.Event.{Frame, Radius, Second, Link}
+use Rattle.switch_event.specs.declared.drop.AaaDrop.TheVariants as answer
 use Rattle.switch_event.specs.declared.event.Outcome.TheVariants.{Done, AnswerDropped}
 use Rattle.switch_event.specs.declared.decision.Decision.TheVariants.{Forward, Drop}
 use Rattle.switch_event.specs.declared.decision.Drop9.TheVariants.{Unauthorised}
@@ -73,7 +74,7 @@ the_same_accept_again : told (opening settings_1)
     ++ codes "77313d060000000f2c0a30303030303030314f0a0201000801626f62")) ∷ [])
     ∷ turned Done (ToHost 1 (octets (codes "0200000000aa020000010101888e0200000403010004")) ∷ [])
     ∷ decided (Forward 1 42)
-    ∷ turned (AnswerDropped 2) ([])
+    ∷ turned (AnswerDropped answer.NoRequest) ([])
     ∷ []
 unfolding settled pieces request_octets next_name packet_of attributes_of run_within first_attribute authenticator u32_at
     block_word double_rounds column_round diagonal_round quarter_round md5 digest_bytes hash_after compress rounds block_words
@@ -97,7 +98,7 @@ an_octet_is_wrong : told (opening settings_1)
     ++ codes "40f70105626f620406c000020a0506000000010606000000020c06000005d81e1330322d"
     ++ codes "30302d30302d30312d30312d30311f1330322d30302d30302d30302d30302d4141200573"
     ++ codes "77313d060000000f2c0a30303030303030314f0a0201000801626f62")) ∷ [])
-    ∷ turned (AnswerDropped 4) ([])
+    ∷ turned (AnswerDropped answer.BadAuthenticator) ([])
     ∷ decided (Drop Unauthorised)
     ∷ turned Done (ToHost 1 (octets (codes "0200000000aa020000010101888e0200000403010004")) ∷ [])
     ∷ decided (Forward 1 42)
@@ -640,7 +641,7 @@ an_unsigned_accept : told (opening settings_1)
     ++ codes "40f70105626f620406c000020a0506000000010606000000020c06000005d81e1330322d"
     ++ codes "30302d30302d30312d30312d30311f1330322d30302d30302d30302d30302d4141200573"
     ++ codes "77313d060000000f2c0a30303030303030314f0a0201000801626f62")) ∷ [])
-    ∷ turned (AnswerDropped 5) ([])
+    ∷ turned (AnswerDropped answer.BadMessageAuth) ([])
     ∷ []
 unfolding settled pieces request_octets next_name packet_of attributes_of run_within first_attribute authenticator u32_at
     block_word double_rounds column_round diagonal_round quarter_round md5 digest_bytes hash_after compress rounds block_words
@@ -696,7 +697,7 @@ another_socket : told (opening settings_1)
     ++ codes "40f70105626f620406c000020a0506000000010606000000020c06000005d81e1330322d"
     ++ codes "30302d30302d30312d30312d30311f1330322d30302d30302d30302d30302d4141200573"
     ++ codes "77313d060000000f2c0a30303030303030314f0a0201000801626f62")) ∷ [])
-    ∷ turned (AnswerDropped 2) ([])
+    ∷ turned (AnswerDropped answer.NoRequest) ([])
     ∷ []
 unfolding settled pieces request_octets next_name packet_of attributes_of run_within first_attribute authenticator u32_at
     block_word double_rounds column_round diagonal_round quarter_round md5 digest_bytes hash_after compress rounds block_words

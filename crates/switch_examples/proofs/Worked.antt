@@ -5,6 +5,7 @@ use Rattle.machine_vars.specs.declared.control.Control.TheVariants.{Auto, ForceA
 use Rattle.settle_defs.specs.Settle.{settled}
 use Rattle.switch_event.specs.Config.{Config, empty}
 use Rattle.switch_event.specs.Event.{Happening, Frame, Link}
+use Rattle.switch_event.specs.declared.drop.FrameDrop.TheVariants as frame
 use Rattle.switch_event.specs.declared.event.Outcome.TheVariants.{FrameDropped}
 use Rattle.switch_event.specs.declared.decision.Decision.TheVariants.{Forward, Drop}
 use Rattle.switch_event.specs.declared.decision.Drop9.TheVariants.{Runt, Reserved, Tagged, GroupSource, Down, Closed, Unauthorised}
@@ -136,8 +137,8 @@ third_start : (turn (turn started start).state start).sent ≡ sent_to a 1 (5 �
 unfolding settled
 third_start = refl
 
-logoff_of_a_stranger : (turn up_1 logoff).outcome ≡ FrameDropped 13
+logoff_of_a_stranger : (turn up_1 logoff).outcome ≡ FrameDropped frame.NoSession
 logoff_of_a_stranger = refl
 
-start_while_down : (turn (opening setting) start).outcome ≡ FrameDropped 3
+start_while_down : (turn (opening setting) start).outcome ≡ FrameDropped frame.Down
 start_while_down = refl

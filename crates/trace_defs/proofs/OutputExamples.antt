@@ -1,25 +1,34 @@
 -- What is printed, by computation: a row for each name. They test the definitions.
-use Rattle.std.proofs.Common.{◌≡◌, ℕ, refl, true, false, List, [], ◌∷◌, ◌++◌, map, codes}
+use Rattle.std.proofs.Common.{◌≡◌, ℕ, refl, List, [], ◌∷◌, ◌++◌, map, codes}
 use Rattle.std.specs.Fmt.{digits}
 use Rattle.hex.specs.Hex.{encode_with}
+use Rattle.switch_event.specs.declared.drop.FrameDrop.TheVariants as frame
+use Rattle.switch_event.specs.declared.drop.AaaDrop.TheVariants as answer
+use Rattle.switch_event.specs.declared.drop.DynDrop.TheVariants as request
 use Rattle.switch_event.specs.declared.event.Outcome.{Outcome}
 use Rattle.switch_event.specs.declared.event.Outcome.TheVariants.{Done, FrameDropped, AnswerDropped, Acked, Naked, Again, RequestDropped}
 use Rattle.switch_event.specs.declared.decision.Decision.TheVariants.{Forward, Drop}
 use Rattle.switch_event.specs.declared.decision.Drop9.{Drop9}
 use Rattle.switch_event.specs.declared.decision.Drop9.TheVariants.{Runt, Giant, Control, Reserved, Tagged, GroupSource, Down, Closed, Unauthorised}
 use Rattle.switch_event.specs.Sent.{ToHost, ToServer, ToClient}
-use Rattle.trace_defs.specs.Output.{control_block, control_line, data_line, can_come}
+use Rattle.trace_defs.specs.Output.{control_block, control_line, data_line}
 
 -- ---- control records
 
 abbrev outcomes : List Outcome
 outcomes =
     Done ∷ Acked ∷ Naked 503 ∷ Again
-    ∷ FrameDropped 1 ∷ FrameDropped 2 ∷ FrameDropped 3 ∷ FrameDropped 4 ∷ FrameDropped 5 ∷ FrameDropped 6 ∷ FrameDropped 7
-    ∷ FrameDropped 8 ∷ FrameDropped 9 ∷ FrameDropped 10 ∷ FrameDropped 11 ∷ FrameDropped 12 ∷ FrameDropped 13 ∷ FrameDropped 14
-    ∷ AnswerDropped 1 ∷ AnswerDropped 2 ∷ AnswerDropped 3 ∷ AnswerDropped 4 ∷ AnswerDropped 5 ∷ AnswerDropped 6 ∷ AnswerDropped 7
-    ∷ RequestDropped 1 ∷ RequestDropped 2 ∷ RequestDropped 3 ∷ RequestDropped 4 ∷ RequestDropped 5 ∷ RequestDropped 6
-    ∷ RequestDropped 8 ∷ []
+    ∷ FrameDropped frame.Elsewhere ∷ FrameDropped frame.GroupSource ∷ FrameDropped frame.Down
+    ∷ FrameDropped frame.EapolShort ∷ FrameDropped frame.Key ∷ FrameDropped frame.EapolType
+    ∷ FrameDropped frame.BodyShort ∷ FrameDropped frame.EapShort ∷ FrameDropped frame.EapCode
+    ∷ FrameDropped frame.EapLength ∷ FrameDropped frame.NotResponse ∷ FrameDropped frame.Forced
+    ∷ FrameDropped frame.NoSession ∷ FrameDropped frame.PortFull
+    ∷ AnswerDropped answer.Malformed ∷ AnswerDropped answer.NoRequest ∷ AnswerDropped answer.BadCode
+    ∷ AnswerDropped answer.BadAuthenticator ∷ AnswerDropped answer.BadMessageAuth
+    ∷ AnswerDropped answer.Oversize ∷ AnswerDropped answer.BadEap
+    ∷ RequestDropped request.Stranger ∷ RequestDropped request.Malformed ∷ RequestDropped request.Oversize
+    ∷ RequestDropped request.BadCode ∷ RequestDropped request.BadAuthenticator
+    ∷ RequestDropped request.BadMessageAuth ∷ RequestDropped request.Stale ∷ []
 
 abbrev outcome_names : List (List ℕ)
 outcome_names =
@@ -35,16 +44,6 @@ outcome_names =
 outcomes_printed : map (control_line 7 2 3) outcomes ≡ map (λ name. codes "c 7 @2 3 " ++ name ++ 10 ∷ []) outcome_names
 unfolding digits
 outcomes_printed = refl
-
-outcomes_come : map can_come outcomes ≡ map (λ outcome. true) outcomes
-outcomes_come = refl
-
--- a line without a name is none at which something is dropped
-abbrev nameless : List Outcome
-nameless = FrameDropped 0 ∷ FrameDropped 15 ∷ AnswerDropped 0 ∷ AnswerDropped 8 ∷ RequestDropped 0 ∷ RequestDropped 7 ∷ RequestDropped 9 ∷ []
-
-nameless_come_never : map can_come nameless ≡ map (λ outcome. false) nameless
-nameless_come_never = refl
 
 -- what was sent stands below, in its order; the first socket of the server is left out
 sent_printed :

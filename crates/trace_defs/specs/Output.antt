@@ -1,9 +1,15 @@
 -- The text that is printed for records.
-use Rattle.std.specs.Prelude.{ℕ, ◌==◌, if◌then◌else◌, nat_lt, Bool, true, List, [], ◌∷◌, ◌++◌, length, codes}
+use Rattle.std.specs.Prelude.{ℕ, ◌==◌, if◌then◌else◌, List, [], ◌∷◌, ◌++◌, codes}
 use Rattle.std.specs.List.{concat, flat_map}
 use Rattle.std.specs.Fmt.{decimal}
 use Rattle.hex.specs.Hex.{encode_lower}
 use Rattle.wire_defs.specs.Ethernet.{tagged}
+use Rattle.switch_event.specs.declared.drop.FrameDrop.{FrameDrop}
+use Rattle.switch_event.specs.declared.drop.FrameDrop.TheVariants as frame
+use Rattle.switch_event.specs.declared.drop.AaaDrop.{AaaDrop}
+use Rattle.switch_event.specs.declared.drop.AaaDrop.TheVariants as answer
+use Rattle.switch_event.specs.declared.drop.DynDrop.{DynDrop}
+use Rattle.switch_event.specs.declared.drop.DynDrop.TheVariants as request
 use Rattle.switch_event.specs.declared.event.Outcome.{Outcome}
 use Rattle.switch_event.specs.declared.event.Outcome.TheVariants.{Done, FrameDropped, AnswerDropped, Acked, Naked, Again, RequestDropped}
 use Rattle.switch_event.specs.Sent.{Sent, ToHost, ToServer, ToClient}
@@ -35,57 +41,51 @@ sent_line (ToClient to octets) =
 abbrev pub sent_lines : List Sent → List ℕ
 sent_lines sent = flat_map sent_line sent
 
--- the names of the lines at which a frame is dropped
-abbrev pub frame_drop : ℕ → List ℕ
-frame_drop line =
-    if line == 1 then codes "elsewhere"
-    else if line == 2 then codes "group-source"
-    else if line == 3 then codes "down"
-    else if line == 4 then codes "eapol-short"
-    else if line == 5 then codes "key"
-    else if line == 6 then codes "eapol-type"
-    else if line == 7 then codes "body-short"
-    else if line == 8 then codes "eap-short"
-    else if line == 9 then codes "eap-code"
-    else if line == 10 then codes "eap-length"
-    else if line == 11 then codes "not-response"
-    else if line == 12 then codes "forced"
-    else if line == 13 then codes "no-session"
-    else if line == 14 then codes "port-full"
-    else []
+-- why a frame of a host is dropped
+abbrev pub frame_drop : FrameDrop → List ℕ
+frame_drop frame.Elsewhere = codes "elsewhere"
+frame_drop frame.GroupSource = codes "group-source"
+frame_drop frame.Down = codes "down"
+frame_drop frame.EapolShort = codes "eapol-short"
+frame_drop frame.Key = codes "key"
+frame_drop frame.EapolType = codes "eapol-type"
+frame_drop frame.BodyShort = codes "body-short"
+frame_drop frame.EapShort = codes "eap-short"
+frame_drop frame.EapCode = codes "eap-code"
+frame_drop frame.EapLength = codes "eap-length"
+frame_drop frame.NotResponse = codes "not-response"
+frame_drop frame.Forced = codes "forced"
+frame_drop frame.NoSession = codes "no-session"
+frame_drop frame.PortFull = codes "port-full"
 
--- those at which a datagram of the RADIUS server is dropped
-abbrev pub answer_drop : ℕ → List ℕ
-answer_drop line =
-    if line == 1 then codes "malformed"
-    else if line == 2 then codes "no-request"
-    else if line == 3 then codes "bad-code"
-    else if line == 4 then codes "bad-authenticator"
-    else if line == 5 then codes "bad-message-auth"
-    else if line == 6 then codes "oversize"
-    else if line == 7 then codes "bad-eap"
-    else []
+-- why an answer of the RADIUS server is dropped
+abbrev pub answer_drop : AaaDrop → List ℕ
+answer_drop answer.Malformed = codes "malformed"
+answer_drop answer.NoRequest = codes "no-request"
+answer_drop answer.BadCode = codes "bad-code"
+answer_drop answer.BadAuthenticator = codes "bad-authenticator"
+answer_drop answer.BadMessageAuth = codes "bad-message-auth"
+answer_drop answer.Oversize = codes "oversize"
+answer_drop answer.BadEap = codes "bad-eap"
 
--- those at which a dynamic request is dropped
-abbrev pub request_drop : ℕ → List ℕ
-request_drop line =
-    if line == 1 then codes "stranger"
-    else if line == 2 then codes "malformed"
-    else if line == 3 then codes "oversize"
-    else if line == 4 then codes "bad-code"
-    else if line == 5 then codes "bad-authenticator"
-    else if line == 6 then codes "bad-message-auth"
-    else if line == 8 then codes "stale"
-    else []
+-- why a dynamic request is dropped
+abbrev pub request_drop : DynDrop → List ℕ
+request_drop request.Stranger = codes "stranger"
+request_drop request.Malformed = codes "malformed"
+request_drop request.Oversize = codes "oversize"
+request_drop request.BadCode = codes "bad-code"
+request_drop request.BadAuthenticator = codes "bad-authenticator"
+request_drop request.BadMessageAuth = codes "bad-message-auth"
+request_drop request.Stale = codes "stale"
 
 abbrev pub outcome_text : Outcome → List ℕ
 outcome_text Done = codes "ok"
-outcome_text (FrameDropped line) = codes "drop " ++ frame_drop line
-outcome_text (AnswerDropped line) = codes "drop " ++ answer_drop line
+outcome_text (FrameDropped why) = codes "drop " ++ frame_drop why
+outcome_text (AnswerDropped why) = codes "drop " ++ answer_drop why
 outcome_text Acked = codes "ack"
 outcome_text (Naked cause) = codes "nak " ++ decimal cause
 outcome_text Again = codes "again"
-outcome_text (RequestDropped line) = codes "drop " ++ request_drop line
+outcome_text (RequestDropped why) = codes "drop " ++ request_drop why
 
 -- `c RECORD @LANE SERIAL OUTCOME`
 abbrev pub control_line : ℕ → ℕ → ℕ → Outcome → List ℕ
@@ -94,13 +94,6 @@ control_line number lane serial outcome =
     codes "c " ∷ decimal number ∷ codes " @" ∷ decimal lane ∷ codes " " ∷ decimal serial ∷ codes " "
     ∷ outcome_text outcome ∷ line_feed ∷ []
     )
-
--- an outcome that an event can have: the line at which something is dropped is one that has a name
-abbrev pub can_come : Outcome → Bool
-can_come (FrameDropped line) = nat_lt 0 (length (frame_drop line))
-can_come (AnswerDropped line) = nat_lt 0 (length (answer_drop line))
-can_come (RequestDropped line) = nat_lt 0 (length (request_drop line))
-can_come other = true
 
 -- the block of a control record
 abbrev pub control_block : ℕ → ℕ → ℕ → Outcome → List Sent → List ℕ

@@ -1,6 +1,6 @@
 use Rattle.std.proofs.Common.{◌≡◌, ◌∙◌, ℕ, Bool, List, Option, Some, None, Ok, ap, sym}
 use Rattle.radius_defs.specs.Packet.{Packet}
-use Rattle.aaa_defs.specs.declared.AaaDrop.{AaaDrop}
+use Rattle.switch_event.specs.declared.drop.AaaDrop.{AaaDrop}
 use Rattle.aaa_defs.specs.Waits.{Pending, Waits, name_of, pending_under}
 use Rattle.aaa_defs.specs.Answer.{answered, answered_in, answered_by, taken_from, checks, first_failed, eap_carried}
 use Rattle.radius_defs.proofs.ParsedLemmas.{packet-of-some, packet-of-none}
