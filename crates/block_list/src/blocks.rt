@@ -1,4 +1,4 @@
-ghost use Rattle.std.specs.Prelude.{◌≡◌, ◌≤◌, ◌<◌, ◌^◌, ◌++◌, ◌∷◌, [], true, length, slice_get, slice_range, Some, OnOk, OnErr};
+ghost use Rattle.std.specs.Prelude.{◌≡◌, ◌≤◌, ◌<◌, ◌^◌, ◌++◌, ◌∷◌, [], length, slice_get, slice_range, Some, OnOk, OnErr};
 ghost use Rattle.trace_defs.specs.Output as output;
 ghost use Rattle.legal_defs.specs.Blocks.{Shown, forwards_one};
 ghost use Rattle.block_list.specs.Marks.{shown, one_if};
@@ -79,7 +79,6 @@ impl Blocks {
         tray: &Tray,
     ) -> Result<(), AllocError>
         requires lane { (1 ≤ lane) × (lane ≤ 3) }
-        requires outcome { output.can_come outcome.now ≡ true }
         ensures added { OnOk result (self.new ≡ self.old ++ record {
           count = serial;
           text = output.control_block number lane serial outcome.now tray.now.items;

@@ -3,9 +3,8 @@ use Rattle.std.proofs.Common.{◌≡◌, ℕ, refl, sym, ap, subst, ◌∙◌, L
 use Rattle.std.specs.Prelude.{◌==◌, Result, Ok, Err}
 use Rattle.std.specs.Cmp.{unsigned_Decides}
 use Rattle.std.proofs.lemmas.List.{append-nil}
-use Rattle.aaa_defs.specs.declared.AaaDrop.{AaaDrop}
-use Rattle.aaa_defs.specs.declared.AaaDrop.TheVariants.{Malformed, NoRequest, BadCode, BadAuthenticator, BadMessageAuth, Oversize, BadEap}
-use Rattle.aaa_defs.specs.Answer.{Taking, answered, line_number}
+use Rattle.switch_event.specs.declared.drop.AaaDrop.{AaaDrop}
+use Rattle.aaa_defs.specs.Answer.{Taking, answered}
 use Rattle.aaa_defs.specs.Said.{said}
 use Rattle.aaa_defs.specs.Waits.{forgotten}
 use Rattle.switch_event.specs.Sent.{Sent}
@@ -15,7 +14,7 @@ use Rattle.typed_session.specs.Follows.{with_sent}
 use Rattle.server_words.specs.declared.words.Told.{Told}
 use Rattle.server_words.specs.Words.{Means, Says}
 use Rattle.switch_defs.specs.Switch.{Port, Session, State, is_vlan, port_of, session_numbered}
-use Rattle.switch_defs.specs.Answer.{answered_on, check_number, kept_of, native_of, says, told_by}
+use Rattle.switch_defs.specs.Answer.{answered_on, kept_of, native_of, says, told_by}
 use Rattle.switch_defs.specs.Answer as answer
 use Rattle.switch_defs.specs.Turn as model
 use Rattle.switch_defs.specs.Sound.{In, IsOpenPort, IsSound}
@@ -70,15 +69,6 @@ means_so told t eap n s y said_ e f =
 
 -- ---- an answer that is dropped
 
-lines_agree : (d : AaaDrop) → line_number d ≡ check_number d
-lines_agree Malformed = refl
-lines_agree NoRequest = refl
-lines_agree BadCode = refl
-lines_agree BadAuthenticator = refl
-lines_agree BadMessageAuth = refl
-lines_agree Oversize = refl
-lines_agree BadEap = refl
-
 pub holds_same : (core : Core) (k : Sessions) (s : State) → Holds core s → k ≡ core.sessions → Holds (record core { sessions = k }) s
 holds_same core k s h e = record {
   config = h.config;
@@ -88,12 +78,12 @@ holds_same core k s h e = record {
   kept = h.kept;
 }
 
-pub turns_dropped : (s : State) (socket : ℕ) (octets : List ℕ) (drop : AaaDrop) (line : ℕ) (core : Core) (tray : Things) (items : List Item) →
-    answered s.waits socket octets s.config.secret s.config.require_ma ≡ Err drop → line ≡ line_number drop → Holds core s →
-    Turns s (model.do_answer s (answered_on s socket octets)) core (AnswerDropped line) tray tray items items
-turns_dropped s socket octets drop line core tray items e l h =
-    subst (λ (r : Result Taking AaaDrop). Turns s (model.do_answer s (told_by s r)) core (AnswerDropped line) tray tray items items) (sym e)
-    (record { holds = h; became = ap AnswerDropped (l ∙ lines_agree drop); sent = none_sent tray; told = λ start told. told })
+pub turns_dropped : (s : State) (socket : ℕ) (octets : List ℕ) (drop : AaaDrop) (core : Core) (tray : Things) (items : List Item) →
+    answered s.waits socket octets s.config.secret s.config.require_ma ≡ Err drop → Holds core s →
+    Turns s (model.do_answer s (answered_on s socket octets)) core (AnswerDropped drop) tray tray items items
+turns_dropped s socket octets drop core tray items e h =
+    subst (λ (r : Result Taking AaaDrop). Turns s (model.do_answer s (told_by s r)) core (AnswerDropped drop) tray tray items items) (sym e)
+    (record { holds = h; became = refl; sent = none_sent tray; told = λ start told. told })
 
 -- ---- an answer that is taken
 

@@ -15,6 +15,9 @@ use Rattle.machine_defs.specs.Live as live
 use Rattle.settle_defs.specs.Settle.{settled}
 use Rattle.session_table.specs.Slots as slots
 use Rattle.switch_event.specs.declared.config.PortConf.{PortConf}
+use Rattle.switch_event.specs.declared.drop.FrameDrop.{FrameDrop}
+use Rattle.switch_event.specs.declared.drop.FrameDrop.TheVariants.{Elsewhere, GroupSource, Down, Forced, NoSession, PortFull}
+use Rattle.switch_event.specs.Drop.{frame_line}
 use Rattle.switch_event.specs.declared.event.Outcome.{Outcome}
 use Rattle.switch_event.specs.declared.event.Outcome.TheVariants.{Done, FrameDropped}
 use Rattle.out_tray.specs.Tray.{Things}
@@ -44,7 +47,7 @@ use Rattle.control_core.proofs.Answering.{none_sent}
 -- ---- a frame that was read came in on a port that is up
 
 abbrev line_of : FrameCase → ℕ
-line_of (Dropped line) = line
+line_of (Dropped why) = frame_line why
 line_of (Forces q from) = 99
 line_of (Opens q from) = 99
 line_of (Hears y e) = 99
@@ -62,7 +65,7 @@ low_two = omega arith
 low_three : 3 ≤ 3
 low_three = omega arith
 
-late_first : (b c : Bool) (q : Port) (from : List ℕ) → 12 ≤ line_of (if b then Dropped 13 else if c then Dropped 14 else Opens q from)
+late_first : (b c : Bool) (q : Port) (from : List ℕ) → 12 ≤ line_of (if b then Dropped NoSession else if c then Dropped PortFull else Opens q from)
 late_first true c q from = at_least 1
 late_first false true q from = at_least 2
 late_first false false q from = at_least 87
@@ -71,7 +74,7 @@ late_known : (s : State) (q : Port) (from : List ℕ) (e : live.Event) (o : Opti
 late_known s q from e (Some y) = at_least 87
 late_known s q from e None = late_first (is_logoff e) (is_full q.conf.port s) q from
 
-late_by : (b c : Bool) (k : FrameCase) (q : Port) (from : List ℕ) → 12 ≤ line_of k → 12 ≤ line_of (if b then k else if c then Forces q from else Dropped 12)
+late_by : (b c : Bool) (k : FrameCase) (q : Port) (from : List ℕ) → 12 ≤ line_of k → 12 ≤ line_of (if b then k else if c then Forces q from else Dropped Forced)
 late_by true c k q from l = l
 late_by false true k q from l = at_least 87
 late_by false false k q from l = at_least 0
@@ -79,7 +82,7 @@ late_by false false k q from l = at_least 0
 late : (s : State) (q : Port) (from : List ℕ) (e : live.Event) → 12 ≤ line_of (control_case s q from e)
 late s q from e = late_by (is_auto q.control) (is_start e) (known_case s q from e (session_at q.conf.port from s)) q from (late_known s q from e (session_at q.conf.port from s))
 
-early_by : (a b up : Bool) (k : FrameCase) → up ≡ false → line_of (if a then Dropped 1 else if b then Dropped 2 else if not up then Dropped 3 else k) ≤ 3
+early_by : (a b up : Bool) (k : FrameCase) → up ≡ false → line_of (if a then Dropped Elsewhere else if b then Dropped GroupSource else if not up then Dropped Down else k) ≤ 3
 early_by true b up k e = low_one
 early_by false true up k e = low_two
 early_by false false true k e = cc
@@ -106,13 +109,13 @@ auto_case s q from e a = rw a refl
 pub forced_case : (s : State) (q : Port) (from : List ℕ) (e : live.Event) → is_auto q.control ≡ false → is_start e ≡ true → control_case s q from e ≡ Forces q from
 forced_case s q from e a b = rw (a, b) refl
 
-pub unheard_case : (s : State) (q : Port) (from : List ℕ) (e : live.Event) → is_auto q.control ≡ false → is_start e ≡ false → control_case s q from e ≡ Dropped 12
+pub unheard_case : (s : State) (q : Port) (from : List ℕ) (e : live.Event) → is_auto q.control ≡ false → is_start e ≡ false → control_case s q from e ≡ Dropped Forced
 unheard_case s q from e a b = rw (a, b) refl
 
-pub logoff_case : (s : State) (q : Port) (from : List ℕ) (e : live.Event) → is_logoff e ≡ true → known_case s q from e None ≡ Dropped 13
+pub logoff_case : (s : State) (q : Port) (from : List ℕ) (e : live.Event) → is_logoff e ≡ true → known_case s q from e None ≡ Dropped NoSession
 logoff_case s q from e a = rw a refl
 
-pub full_case : (s : State) (q : Port) (from : List ℕ) (e : live.Event) → is_logoff e ≡ false → is_full q.conf.port s ≡ true → known_case s q from e None ≡ Dropped 14
+pub full_case : (s : State) (q : Port) (from : List ℕ) (e : live.Event) → is_logoff e ≡ false → is_full q.conf.port s ≡ true → known_case s q from e None ≡ Dropped PortFull
 full_case s q from e a b = rw (a, b) refl
 
 pub first_case : (s : State) (q : Port) (from : List ℕ) (e : live.Event) → is_logoff e ≡ false → is_full q.conf.port s ≡ false → known_case s q from e None ≡ Opens q from
@@ -182,8 +185,8 @@ pub turns_as : {k l : FrameCase} {s : State} {core : Core} {outcome : Outcome} {
 turns_as {s = s} {core = core} {outcome = outcome} {from = from} {to = to} {before = before} {after = after} e t =
     subst (λ (j : FrameCase). Turns s (model.do_frame s j) core outcome from to before after) (sym e) t
 
-pub frame_dropped : (s : State) (line : ℕ) (core : Core) (tray : Things) (items : List Item) → Holds core s → Turns s (model.do_frame s (Dropped line)) core (FrameDropped line) tray tray items items
-frame_dropped s line core tray items h = record { holds = h; became = refl; sent = none_sent tray; told = λ start told. told }
+pub frame_dropped : (s : State) (why : FrameDrop) (core : Core) (tray : Things) (items : List Item) → Holds core s → Turns s (model.do_frame s (Dropped why)) core (FrameDropped why) tray tray items items
+frame_dropped s why core tray items h = record { holds = h; became = refl; sent = none_sent tray; told = λ start told. told }
 
 views_map : (f : Port → Port) → ((p : Port) → view (f p) ≡ view p) → (ps : List Port) → map view ps ≡ map view (map f ps)
 views_map f e [] = refl

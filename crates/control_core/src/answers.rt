@@ -39,7 +39,7 @@ impl Core {
         ensures made { self.new.made ≡ self.old.made }
     {
         match self.sessions.answer(socket, octets, &self.config) {
-            Err(drop) => Outcome::AnswerDropped(drop.line()),
+            Err(drop) => Outcome::AnswerDropped(drop),
             Ok(taken) => {
                 self.be_told(&taken, tray, items);
                 Outcome::Done

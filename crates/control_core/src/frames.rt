@@ -22,17 +22,8 @@ use table_defs::Item;
 use host_frames::{Heard, Said, read};
 use machine_vars::Control;
 use out_tray::Tray;
-use switch_event::{Outcome, PortConf};
+use switch_event::{FrameDrop, Outcome, PortConf};
 use wire_core::Mac;
-
-// The lines of the list for frames.
-const DOWN: u8 = 3;
-
-const FORCED: u8 = 12;
-
-const NO_SESSION: u8 = 13;
-
-const PORT_FULL: u8 = 14;
 
 impl Core {
     // A frame of EAPOL came in on a port.
@@ -54,11 +45,11 @@ impl Core {
         ensures made { self.new.made ≡ self.old.made }
     {
         let Some(port) = self.ports.port(n) else {
-            return Outcome::FrameDropped(DOWN);
+            return Outcome::FrameDropped(FrameDrop::Down);
         };
         let (conf, link, control) = (port.conf(), port.link(), port.control());
         match read(self.own(n), link, octets) {
-            Err(line) => Outcome::FrameDropped(line),
+            Err(drop) => Outcome::FrameDropped(drop),
             Ok(heard) => self.hear(conf, control, &heard, tray, items),
         }
     }
@@ -105,7 +96,7 @@ impl Core {
         ensures made { self.new.made ≡ self.old.made }
     {
         if !is_start(heard) {
-            return Outcome::FrameDropped(FORCED);
+            return Outcome::FrameDropped(FrameDrop::Forced);
         }
         self.ports.greet(port, heard.from, tray);
         Outcome::Done
@@ -134,10 +125,10 @@ impl Core {
         ensures made { self.new.made ≡ self.old.made }
     {
         if is_logoff(heard) {
-            return Outcome::FrameDropped(NO_SESSION);
+            return Outcome::FrameDropped(FrameDrop::NoSession);
         }
         if self.sessions.count(conf.port) >= HOSTS_A_PORT {
-            return Outcome::FrameDropped(PORT_FULL);
+            return Outcome::FrameDropped(FrameDrop::PortFull);
         }
         self.open_session(conf, heard.from, tray, items);
         Outcome::Done

@@ -54,7 +54,7 @@ impl Core {
             self.clock,
             &roster,
         ) {
-            Judged::Drop(reason) => Outcome::RequestDropped(reason.line()),
+            Judged::Drop(reason) => Outcome::RequestDropped(reason),
             Judged::Again(reply) => {
                 tray.put(Sent::Reply {
                     to: from,

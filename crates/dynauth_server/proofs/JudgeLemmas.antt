@@ -13,7 +13,7 @@ use Rattle.kept_defs.specs.Kept.{Entry, newest_reply}
 use Rattle.switch_event.specs.Config.{Config, Client}
 use Rattle.wire_core.specs.declared.address.Addr.{Addr}
 use Rattle.dynauth_defs.specs.declared.TheConstants.{MOST_REQUEST}
-use Rattle.dynauth_defs.specs.declared.DynDrop.TheVariants.{Malformed, BadAuthenticator, BadMessageAuth, Stale}
+use Rattle.switch_event.specs.declared.drop.DynDrop.TheVariants.{Malformed, BadAuthenticator, BadMessageAuth, Stale}
 use Rattle.dynauth_defs.specs.Session.{Row, matching}
 use Rattle.dynauth_defs.specs.Judge.{Judged, Drop, Again, judged, client_of, is_dynamic, is_untrue, is_far, first_line, lines, done}
 use Rattle.dynauth_defs.specs.Answered.{GetsReply, IsAnswered}

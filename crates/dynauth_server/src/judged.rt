@@ -1,4 +1,5 @@
-use dynauth_defs::{Action, DynDrop};
+use dynauth_defs::Action;
+use switch_event::DynDrop;
 
 /// How a dynamic request is judged.
 #[derive(Clone, Copy, Debug, PartialEq, Eq)]

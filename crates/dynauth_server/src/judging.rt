@@ -14,7 +14,7 @@ use crate::roll::Roll;
 use crate::session::named;
 use crate::trust::{is_authentic, is_dynamic, is_stale, is_untrue};
 use dup_cache::Kept;
-use dynauth_defs::{Action, DynDrop, MOST_REQUEST};
+use dynauth_defs::{Action, MOST_REQUEST};
 use radius_attrs::timeout;
 use radius_defs::attribute::SERVICE_TYPE;
 use radius_defs::cause::{
@@ -24,7 +24,7 @@ use radius_defs::cause::{
 };
 use radius_defs::code::DISCONNECT_REQUEST;
 use radius_packet::{Packet, parse};
-use switch_event::Config;
+use switch_event::{Config, DynDrop};
 use wire_core::Addr;
 
 /// How a datagram is judged that came from an address and port of UDP to the port for dynamic

@@ -14,8 +14,9 @@ mod session;
 mod trust;
 
 pub use client::{client_of, client_place};
-pub use dynauth_defs::{Action, DynDrop, MOST_REQUEST};
+pub use dynauth_defs::{Action, MOST_REQUEST};
 pub use judged::Judged;
 pub use judging::judge;
 pub use replying::reply;
 pub use roll::{Roll, RollRow};
+pub use switch_event::DynDrop;

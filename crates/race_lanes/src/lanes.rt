@@ -49,7 +49,6 @@ impl LaneOut {
     // Prints the block of an accepted event; the lane has failed where there is no memory for it.
     fn note(&mut self, number: u64, answer: &Answer)
         requires lane { (1 ≤ self.old.lane) × (self.old.lane ≤ 3) }
-        requires outcome { output.can_come answer.now.outcome ≡ true }
         ensures same { (self.new.lane ≡ self.old.lane) × (self.new.full ≡ self.old.full)
             × (self.new.tray ≡ self.old.tray) }
         ensures noted { self.new.failed ≡ false → (self.old.failed ≡ false)

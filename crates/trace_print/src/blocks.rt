@@ -1,5 +1,5 @@
 // The blocks that are printed for records.
-ghost use Rattle.std.specs.Prelude.{◌≡◌, ◌≤◌, ◌++◌, true, OnOk, OnErr, length, take};
+ghost use Rattle.std.specs.Prelude.{◌≡◌, ◌≤◌, ◌++◌, OnOk, OnErr, length, take};
 ghost use Rattle.trace_defs.specs.Output as output;
 ghost use Rattle.switch_event.specs.Sent.{sent_of};
 
@@ -10,8 +10,8 @@ use std::alloc::AllocError;
 use switch_event::{Decided, Decision, Outcome};
 
 /// Appends the block of control record `r`, from 1: its lane, 1 to 3, its serial, from 0, what
-/// became of it, and a line for each thing that was sent, in order. The outcome is one that
-/// [`crate::can_come`] has. Where there is no memory, `out` is as before.
+/// became of it, and a line for each thing that was sent, in order. Where there is no memory, `out` is
+/// as before.
 pub fn print_control(
     r: u64,
     lane: u8,
@@ -21,7 +21,6 @@ pub fn print_control(
     out: &mut Vec<u8>,
 ) -> Result<(), AllocError>
     requires lane { (1 ≤ lane) × (lane ≤ 3) }
-    requires outcome { output.can_come o.now ≡ true }
     ensures printed { OnOk result (out.new.items ≡ out.old.items
         ++ output.control_block r lane serial o.now tray.now.items) }
     ensures kept { OnErr result (out.new.items ≡ out.old.items) }

@@ -11,7 +11,6 @@ mod tests;
 mod trace;
 
 pub use blocks::{print_control, print_data};
-pub use names::can_come;
 pub use out_tray::Tray;
 pub use records::print_line;
 pub use settings::print_config;

@@ -5,7 +5,7 @@ ghost use Rattle.trace_defs.specs.Text as defined;
 ghost use Rattle.trace_print.specs.Pieces.{piece_text};
 
 use crate::piece::Piece;
-use switch_event::{Control, Drop9, Outcome};
+use switch_event::{AaaDrop, Control, Drop9, DynDrop, FrameDrop, Outcome};
 use trace_defs::OtherVlan;
 
 /// The control of a port.
@@ -49,79 +49,64 @@ pub fn outcome_pieces(o: &Outcome) -> (&'static [u8], Piece<'static>)
 {
     match o {
         Outcome::Done => (b"ok", Piece::Text(b"")),
-        Outcome::FrameDropped(line) => (b"drop ", Piece::Text(frame_drop(*line))),
-        Outcome::AnswerDropped(line) => (b"drop ", Piece::Text(answer_drop(*line))),
+        Outcome::FrameDropped(why) => (b"drop ", Piece::Text(frame_drop(*why))),
+        Outcome::AnswerDropped(why) => (b"drop ", Piece::Text(answer_drop(*why))),
         Outcome::Acked => (b"ack", Piece::Text(b"")),
         Outcome::Naked(cause) => (b"nak ", Piece::Number(u64::from(*cause))),
         Outcome::Again => (b"again", Piece::Text(b"")),
-        Outcome::RequestDropped(line) => (b"drop ", Piece::Text(request_drop(*line))),
+        Outcome::RequestDropped(why) => (b"drop ", Piece::Text(request_drop(*why))),
     }
 }
 
-/// Whether an event can have this outcome: the line at which something is dropped has a name.
-pub fn can_come(o: &Outcome) -> bool
-    ensures { result ≡ output.can_come o.now }
+// Why a frame of a host is dropped.
+fn frame_drop(why: FrameDrop) -> &'static [u8]
+    ensures { result.now ≡ output.frame_drop why }
 {
-    match o {
-        Outcome::FrameDropped(line) => !frame_drop(*line).is_empty(),
-        Outcome::AnswerDropped(line) => !answer_drop(*line).is_empty(),
-        Outcome::RequestDropped(line) => !request_drop(*line).is_empty(),
-        _ => true,
+    match why {
+        FrameDrop::Elsewhere => b"elsewhere",
+        FrameDrop::GroupSource => b"group-source",
+        FrameDrop::Down => b"down",
+        FrameDrop::EapolShort => b"eapol-short",
+        FrameDrop::Key => b"key",
+        FrameDrop::EapolType => b"eapol-type",
+        FrameDrop::BodyShort => b"body-short",
+        FrameDrop::EapShort => b"eap-short",
+        FrameDrop::EapCode => b"eap-code",
+        FrameDrop::EapLength => b"eap-length",
+        FrameDrop::NotResponse => b"not-response",
+        FrameDrop::Forced => b"forced",
+        FrameDrop::NoSession => b"no-session",
+        FrameDrop::PortFull => b"port-full",
     }
 }
 
-// The names of the lines at which a frame is dropped.
-fn frame_drop(line: u8) -> &'static [u8]
-    ensures { result.now ≡ output.frame_drop line }
+// Why an answer of the RADIUS server is dropped.
+fn answer_drop(why: AaaDrop) -> &'static [u8]
+    ensures { result.now ≡ output.answer_drop why }
 {
-    match line {
-        1 => b"elsewhere",
-        2 => b"group-source",
-        3 => b"down",
-        4 => b"eapol-short",
-        5 => b"key",
-        6 => b"eapol-type",
-        7 => b"body-short",
-        8 => b"eap-short",
-        9 => b"eap-code",
-        10 => b"eap-length",
-        11 => b"not-response",
-        12 => b"forced",
-        13 => b"no-session",
-        14 => b"port-full",
-        _ => b"",
+    match why {
+        AaaDrop::Malformed => b"malformed",
+        AaaDrop::NoRequest => b"no-request",
+        AaaDrop::BadCode => b"bad-code",
+        AaaDrop::BadAuthenticator => b"bad-authenticator",
+        AaaDrop::BadMessageAuth => b"bad-message-auth",
+        AaaDrop::Oversize => b"oversize",
+        AaaDrop::BadEap => b"bad-eap",
     }
 }
 
-// Those at which a datagram of the RADIUS server is dropped.
-fn answer_drop(line: u8) -> &'static [u8]
-    ensures { result.now ≡ output.answer_drop line }
+// Why a dynamic request is dropped.
+fn request_drop(why: DynDrop) -> &'static [u8]
+    ensures { result.now ≡ output.request_drop why }
 {
-    match line {
-        1 => b"malformed",
-        2 => b"no-request",
-        3 => b"bad-code",
-        4 => b"bad-authenticator",
-        5 => b"bad-message-auth",
-        6 => b"oversize",
-        7 => b"bad-eap",
-        _ => b"",
-    }
-}
-
-// Those at which a dynamic request is dropped.
-fn request_drop(line: u8) -> &'static [u8]
-    ensures { result.now ≡ output.request_drop line }
-{
-    match line {
-        1 => b"stranger",
-        2 => b"malformed",
-        3 => b"oversize",
-        4 => b"bad-code",
-        5 => b"bad-authenticator",
-        6 => b"bad-message-auth",
-        8 => b"stale",
-        _ => b"",
+    match why {
+        DynDrop::Stranger => b"stranger",
+        DynDrop::Malformed => b"malformed",
+        DynDrop::Oversize => b"oversize",
+        DynDrop::BadCode => b"bad-code",
+        DynDrop::BadAuthenticator => b"bad-authenticator",
+        DynDrop::BadMessageAuth => b"bad-message-auth",
+        DynDrop::Stale => b"stale",
     }
 }
 

@@ -14,7 +14,7 @@ use Rattle.switch_event.specs.Config.{Config, Client}
 use Rattle.dynauth_defs.specs.Session.{matching}
 use Rattle.dynauth_defs.specs.Judge.{Drop, Nak, Ack, judged, is_dynamic, is_untrue, is_far, first_line, lines, done}
 use Rattle.dynauth_defs.specs.declared.TheConstants.{MOST_REQUEST}
-use Rattle.dynauth_defs.specs.declared.DynDrop.TheVariants.{Oversize, BadCode}
+use Rattle.switch_event.specs.declared.drop.DynDrop.TheVariants.{Oversize, BadCode}
 use Rattle.dynauth_server.specs.Known.{known}
 use Rattle.dynauth_server.specs.Lines.{answered}
 use Rattle.dynauth_server.proofs.JudgeLemmas.{judged-packet, judged-malformed, to-bad-auth, to-bad-message, to-again, to-stale, to-refusals, request-of}

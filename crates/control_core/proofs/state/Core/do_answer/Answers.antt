@@ -6,7 +6,7 @@ use Rattle.control_core.proofs.state.Core.do_answer.Goals as goal
 pub returns-in-Err-clause-turns : goal.returns-in-Err-clause-turns
 returns-in-Err-clause-turns c = λ s m.
     let h = m.stands.holds in
-    turns_dropped s c.args.socket c.args.octets.now c.in-Err.drop _ _ c.args.tray.now c.args.items.now.items (sym (c.answer.ensures.answered s h.sessions (sym h.config)) ∙ ap meaning c.in-Err.is) c.line.ensures
+    turns_dropped s c.args.socket c.args.octets.now c.in-Err.drop _ c.args.tray.now c.args.items.now.items (sym (c.answer.ensures.answered s h.sessions (sym h.config)) ∙ ap meaning c.in-Err.is)
     (holds_same c.args.self.now c.answer.new.self s h c.in-Err.ensures.dropped)
 
 pub be_told-requires-clause-may : goal.be_told-requires-clause-may

@@ -34,7 +34,7 @@ returns-in-Err-clause-turns c = λ s m.
     let found : port_of c.args.n s ≡ Some q = port_found s c.args.n c.args.self.now.ports (Some q) h.ports (sym (ap shown c.in-Some.is) ∙ c.port.ensures) in
     let own : own_address s q.conf.port ≡ c.own.result.0 = own_by s c.args.n q found ∙ ap (λ (g : Config). port_address g.bridge c.args.n) (sym h.config) ∙ sym c.own.ensures in
     turns_as (ap (frame_case s c.args.octets.now) found ∙ c.read.ensures.case s q own (sym c.link-link.ensures) ∙ ap (case_of s q) c.in-Err.is)
-    (frame_dropped s c.in-Err.line _ c.args.tray.now c.args.items.now.items h)
+    (frame_dropped s c.in-Err.drop _ c.args.tray.now c.args.items.now.items h)
 
 pub returns-in-Ok-clause-turns : goal.returns-in-Ok-clause-turns
 returns-in-Ok-clause-turns c = λ s m.

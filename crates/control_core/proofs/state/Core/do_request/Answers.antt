@@ -1,5 +1,5 @@
-use Rattle.std.proofs.Common.{refl, ap}
-use Rattle.switch_event.specs.declared.event.Outcome.TheVariants.{Acked, Again, Naked, RequestDropped}
+use Rattle.std.proofs.Common.{refl}
+use Rattle.switch_event.specs.declared.event.Outcome.TheVariants.{Acked, Again, Naked}
 use Rattle.dynauth_defs.specs.Judge as word
 use Rattle.switch_defs.specs.Switch.{State}
 use Rattle.switch_defs.specs.Dynamic.{act}
@@ -46,7 +46,7 @@ returns-in-Drop-clause-turns c = λ s may.
     let e = stands_judged core s c.args.from c.args.octets.now (word.Drop c.in-Drop.reason) may.stands c.as_slice.result.now c.as_slice.ensures.value c.in-Drop.ensures.line in
     turns_so s c.args.from c.args.octets.now (word.Drop c.in-Drop.reason) core _ c.args.tray.now c.args.tray.now c.args.items.now.items c.args.items.now.items e (record {
       holds = may.stands.holds;
-      became = ap RequestDropped c.line.ensures;
+      became = refl;
       sent = nothing_sent c.args.tray.now;
       told = λ start told. told;
     })

@@ -1,5 +1,6 @@
 use Rattle.std.proofs.Common.{◌≡◌, ℕ, ◌≤◌, ◌<◌, ◌∙◌, false, length, subst, sym}
 use Rattle.host_frames.specs.Heard.{event_of}
+use Rattle.switch_event.specs.declared.drop.FrameDrop.TheVariants.{PortFull}
 use Rattle.switch_defs.specs.Turn.{is_full, on_port_of}
 use Rattle.control_core.specs.Hearing.{MayBegin}
 use Rattle.control_core.proofs.Hearing.{first_case, frame_dropped, full_by, full_case, may_as, opened_turns, room_by, same_number, turns_as}
@@ -12,7 +13,7 @@ returns-then-count-ge-HOSTS-clause-turns c = λ s q k new m.
     let on : c.count.result ≡ length (on_port_of q.conf.port s) = subst (λ (n : ℕ). c.count.result ≡ length (on_port_of n s)) (sym (same_number k)) (c.count.ensures.count s h.sessions) in
     let many : 16 ≤ c.count.result = c.if-count-ge-HOSTS.true in
     turns_as (full_case s q c.args.heard.now.from.0 e (sym c.is_logoff.ensures ∙ c.if-is_logoff.false) (full_by c.count.result (length (on_port_of q.conf.port s)) on many))
-    (frame_dropped s 14 _ c.args.tray.now c.args.items.now.items h)
+    (frame_dropped s PortFull _ c.args.tray.now c.args.items.now.items h)
 
 pub open_session-requires-clause-may : goal.open_session-requires-clause-may
 open_session-requires-clause-may c =
