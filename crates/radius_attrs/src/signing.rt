@@ -1,17 +1,12 @@
 //! Packets that are signed: a Message-Authenticator stands before all other attributes (RFC 3579,
 //! section 3.2), in a client's requests and in a server's replies. No call takes memory.
-#![tactic(auto)]
-
 ghost use Rattle.std.specs.Prelude.{◌≡◌, ◌+◌, [], None};
 ghost use Rattle.radius_defs.specs.declared.Ma.TheVariants.{Right};
 ghost use Rattle.radius_defs.specs.declared.limit.TheConstants.{HEADER_OCTETS};
 ghost use Rattle.radius_defs.specs.Packet.{size_of};
 ghost use Rattle.radius_defs.specs.Digest.{zeros};
 ghost use Rattle.radius_defs.specs.Message.{behind_first, message_state_of, signed, with_message, AwaitsSigning};
-ghost use Rattle.radius_sign.specs.Size.{signed_header};
-
-#[cfg(test)]
-mod tests;
+ghost use Rattle.radius_attrs.specs.Size.{signed_header};
 
 use radius_auth::message_auth;
 use radius_defs::attribute::MESSAGE_AUTHENTICATOR;

@@ -1,13 +1,8 @@
 //! The Request Authenticators of a seed (RFC 2865, section 3), out of the key stream of ChaCha20 (RFC
 //! 8439, section 2.4). No call takes memory.
-#![tactic(auto)]
-
 ghost use Rattle.std.specs.Prelude.{◌≡◌, ◌+◌, ◌*◌, ◌<◌, ◌≤◌, ◌^◌, ◌++◌};
 ghost use Rattle.rand_chacha.specs.ChaCha.{ChaCha, key_of};
 ghost use Rattle.aaa_defs.specs.Request.{authenticator, seed_word};
-
-#[cfg(test)]
-mod tests;
 
 use rand_chacha::ChaCha20Rng;
 use rand_core::SeedableRng;

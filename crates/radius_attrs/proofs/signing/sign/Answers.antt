@@ -4,7 +4,7 @@ use Rattle.radius_defs.specs.Packet.{Packet, Fits, packet_text}
 use Rattle.radius_defs.specs.Digest.{zeros, message_auth}
 use Rattle.radius_defs.specs.Message.{behind_first, first_place, message_state_of, message_value, signed, with_message}
 use Rattle.radius_defs.proofs.SigningLemmas.{signed-right}
-use Rattle.radius_sign.proofs.sign.Goals as goal
+use Rattle.radius_attrs.proofs.signing.sign.Goals as goal
 
 pub set_value16-requires : goal.set_value16-requires
 set_value16-requires c = record {

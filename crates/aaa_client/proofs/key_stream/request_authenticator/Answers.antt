@@ -2,7 +2,7 @@ use Rattle.std.proofs.Common.{◌≡◌, ◌∙◌, ℕ, ◌+◌, ◌*◌, ◌%�
 use Rattle.std.specs.Int.{w32, to_le_bytes}
 use Rattle.rand_chacha.specs.ChaCha.{ChaCha, key_of, next_word, word_at}
 use Rattle.aaa_defs.specs.Request.{authenticator, seed_word}
-use Rattle.request_authenticator.proofs.request_authenticator.Goals as goal
+use Rattle.aaa_client.proofs.key_stream.request_authenticator.Goals as goal
 
 -- the generator of a seed at a place of stream 0
 abbrev stands : List ℕ → ℕ → ChaCha
