@@ -11,6 +11,3 @@ pub use decision::{Decided, Decision, Drop9};
 pub use event::{Event, Outcome};
 pub use machine_vars::{Control, Times};
 pub use sent::Sent;
-
-#[cfg(test)]
-mod tests;

@@ -8,6 +8,3 @@ mod text;
 pub use address::{Addr, Mac, Room};
 pub use number::{be16, be32, decimal, four_octets, two_octets};
 pub use text::{station, station_of, upper_digit};
-
-#[cfg(test)]
-mod tests;
