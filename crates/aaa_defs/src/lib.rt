@@ -30,13 +30,14 @@ pub const MOST_WAITING: usize = 960;
 pub enum AaaDrop {
     /// The octets are no RADIUS packet.
     Malformed,
-    /// No request is pending under the identifier.
+    /// No request is pending under the socket that the answer came to and its identifier.
     NoRequest,
     /// The code is not Access-Accept, Access-Reject or Access-Challenge.
     BadCode,
     /// The authenticator is not that of an answer to the request.
     BadAuthenticator,
-    /// The Message-Authenticator is wrong, or there is none beside EAP.
+    /// The Message-Authenticator is not that of the packet under the request's authenticator, or there
+    /// are several; or there is none, and the answer carries EAP or the settings require one of each.
     BadMessageAuth,
     /// The EAP packet has more than 1,496 octets.
     Oversize,
