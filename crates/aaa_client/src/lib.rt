@@ -4,17 +4,15 @@
 #![tactic(auto)]
 
 mod answer;
+mod key_stream;
 mod order;
 mod pending;
 mod request;
-#[cfg(test)]
-mod tests;
-#[cfg(test)]
-mod vectors;
 mod waits;
 
 pub use aaa_defs::Aged;
 pub use answer::Taken;
+pub use key_stream::request_authenticator;
 pub use pending::Pending;
 pub use request::Ask;
 pub use switch_event::AaaDrop;

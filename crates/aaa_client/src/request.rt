@@ -8,12 +8,12 @@ ghost use Rattle.radius_defs.specs.Message.{signed};
 ghost use Rattle.radius_defs.specs.Packet.{size_of};
 ghost use Rattle.aaa_defs.specs.declared.TheConstants.{MOST_HOST_EAP};
 ghost use Rattle.aaa_defs.specs.Request.{IsAsk, attribute, pieces, request_attributes, state_attributes, unsigned_request};
-ghost use Rattle.radius_sign.specs.Size.{signed_header};
+ghost use Rattle.radius_attrs.specs.Size.{signed_header};
 ghost use Rattle.aaa_client.specs.Room.{station_room, eap_room};
 
 use aaa_defs::MOST_EAP;
 use arrayvec::ArrayVec;
-use radius_attrs::session_text;
+use radius_attrs::{restart, session_text, sign};
 use radius_defs::attribute::{
     ACCT_SESSION_ID, CALLED_STATION_ID, CALLING_STATION_ID, EAP_MESSAGE, FRAMED_MTU,
     NAS_IDENTIFIER, NAS_IP_ADDRESS, NAS_PORT, NAS_PORT_TYPE, SERVICE_TYPE, STATE, USER_NAME,
@@ -22,7 +22,6 @@ use radius_defs::code::ACCESS_REQUEST;
 use radius_defs::limit::MOST_VALUE;
 use radius_defs::value::{ETHERNET, FRAMED};
 use radius_packet::Builder;
-use radius_sign::{restart, sign};
 use std::marker::Model;
 use switch_event::Config;
 use wire_core::{Mac, four_octets, station};

@@ -5,9 +5,9 @@ ghost use Rattle.table_defs.specs.Change.{item_of};
 ghost use Rattle.auth_publish.specs.Changes.{is_finish};
 
 use auth_table::{Table, absorb};
-use table_defs::Item;
 use std::alloc::{AllocError, Global};
 use std::marker::Model;
+use table_defs::Item;
 
 /// The items of a change, in memory for just so many, or the end. Contracts see the change.
 #[derive(Drop)]

@@ -11,13 +11,13 @@ use crate::receipt::{Head, Receipt, begin};
 use crate::rule::{Arrives, Begins, Copies, Deed, Law, Opening, Posts, Published};
 use crate::viewer::Viewer;
 use auth_table::Table;
-use table_defs::Item;
 use core::mem::replace_with;
 use event_record::MOST_EVENTS;
 use left_right::writer::Writer;
 use std::alloc::{AllocError, Global};
 use std::marker::Model;
 use std::sync::Wait;
+use table_defs::Item;
 
 type TableWriter = Writer<Published, Deed, Option<Opening>, Law>;
 

@@ -9,6 +9,7 @@ ghost use Rattle.day_defs.specs.Server as server;
 
 use day_defs::Question;
 use eap_packet::canned;
+use radius_attrs::{begin, sign};
 use radius_auth::response_auth;
 use radius_defs::attribute::{
     EAP_MESSAGE, TUNNEL_MEDIUM_TYPE, TUNNEL_PRIVATE_GROUP_ID, TUNNEL_TYPE,
@@ -16,7 +17,6 @@ use radius_defs::attribute::{
 use radius_defs::code::ACCESS_ACCEPT;
 use radius_defs::value::{IEEE_802, VLAN};
 use radius_packet::Builder;
-use radius_sign::{begin, sign};
 use wire_core::four_octets;
 
 // The secret that the server shares with the switch.

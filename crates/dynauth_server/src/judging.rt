@@ -4,7 +4,7 @@ ghost use Rattle.dynauth_defs.specs.Session.{matching};
 ghost use Rattle.dynauth_defs.specs.Judge.{judged as judged_lem, first_line, done, is_dynamic as is_dynamic_lem};
 ghost use Rattle.dynauth_defs.specs.Answered.{GetsReply, IsAnswered};
 ghost use Rattle.dynauth_server.specs.Lines.{refusals, answered};
-ghost use Rattle.dynauth_server.specs.Judged.{FitsAgain, judged_in};
+ghost use Rattle.dynauth_server.specs.Judged.{FitsAck, FitsAgain, judged_in};
 
 use crate::attributes::{has, has_forbidden, has_ill_formed, is_for_another, names_session};
 use crate::change::{asks_no_change, has_bad_value, vlan};
@@ -43,7 +43,8 @@ use wire_core::Addr;
 /// `kept` must have a list of kept replies for each client, in the order of the settings. The client
 /// of a request is the first that has the source address. A reply that is given again lies in that
 /// client's list, and has at most 4,096 octets. What is refused or acknowledged is a request to which
-/// [`crate::reply`] can be written. Nothing changes, and no memory is taken.
+/// [`crate::reply`] can be written. What is acknowledged names one session, which is authorised where
+/// it is to be changed. Nothing changes, and no memory is taken.
 pub fn judge<'a, R: Roll>(
     b: &[u8],
     from: Addr,
@@ -56,6 +57,7 @@ pub fn judge<'a, R: Roll>(
     ensures line { judged_in result ≡ judged_lem c.now kept.now now (R.rows roll.now) from b.now }
     ensures request { GetsReply (judged_in result) → IsAnswered c.now kept.now from b.now }
     ensures fits { FitsAgain result }
+    ensures acked { FitsAck (R.rows roll.now) b.now result }
 {
     let Some((client, replies)) = client_of(from.ip, c.clients.as_slice(), kept) else {
         return Judged::Drop(DynDrop::Stranger);

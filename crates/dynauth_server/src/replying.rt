@@ -10,10 +10,10 @@ ghost use Rattle.dynauth_defs.specs.Answered.{IsRequest};
 ghost use Rattle.dynauth_server.specs.Replies.{with_all};
 
 use arrayvec::ArrayVec;
+use radius_attrs::{begin, sign};
 use radius_auth::response_auth;
 use radius_defs::attribute::{ERROR_CAUSE, PROXY_STATE};
 use radius_packet::{Builder, Packet};
-use radius_sign::{begin, sign};
 use wire_core::four_octets;
 
 /// Replaces `out` by the octets of the reply to a Disconnect-Request or a CoA-Request: an ACK, or

@@ -14,3 +14,5 @@ mod requests;
 mod roll;
 #[cfg(test)]
 mod rows;
+#[cfg(test)]
+mod vectors;

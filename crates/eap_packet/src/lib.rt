@@ -8,6 +8,3 @@ mod read;
 pub use made::{canned, identity_request};
 pub use read::{Eap, parse};
 pub use wire_defs::EapDrop;
-
-#[cfg(test)]
-mod tests;

@@ -8,6 +8,3 @@ mod written;
 pub use read::{Eapol, parse};
 pub use wire_defs::{EapolDrop, Kind};
 pub use written::write;
-
-#[cfg(test)]
-mod tests;

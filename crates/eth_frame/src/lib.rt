@@ -8,6 +8,3 @@ mod write;
 pub use read::{Frame, is_control, parse};
 pub use wire_defs::EthDrop;
 pub use write::{write_plain, write_tagged};
-
-#[cfg(test)]
-mod tests;

@@ -13,6 +13,3 @@ mod session;
 pub use machine_vars::{Times, Wants};
 pub use opening::open;
 pub use session::Session;
-
-#[cfg(test)]
-mod tests;

@@ -12,9 +12,9 @@ ghost use Rattle.host_sessions.specs.Follows.{HasAt, IsToAsk, MayFollow, followe
 
 use crate::seconds::send;
 use crate::sessions::Sessions;
+use aaa_client::request_authenticator;
 use host_session::Wants;
 use out_tray::Tray;
-use request_authenticator::request_authenticator;
 use switch_event::Config;
 use wire_core::Mac;
 

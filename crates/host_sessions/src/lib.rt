@@ -15,6 +15,3 @@ mod showing;
 
 pub use following::port_address;
 pub use sessions::Sessions;
-
-#[cfg(test)]
-mod tests;

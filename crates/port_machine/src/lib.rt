@@ -15,6 +15,3 @@ pub use laws::steps_take_the_row_of_least_number;
 pub use machine_vars::Times;
 pub use opening::fresh;
 pub use settling::settle;
-
-#[cfg(test)]
-mod tests;

@@ -1,5 +1,5 @@
 -- Phases as a trace has them, and as lanes and workers run them.
-use Rattle.std.proofs.Common.{◌≡◌, ℕ, zero, suc, ◌+◌, ◌<◌, ◌≤◌, ◌^◌, List, [], ◌∷◌, ◌++◌, All, Option, None, Some, Result, Ok, Err, IfOk, MatchOption, length, refl, ap, sym, ◌∙◌, subst, length-append, arith}
+use Rattle.std.proofs.Common.{◌≡◌, ℕ, zero, suc, ◌+◌, ◌<◌, ◌≤◌, ◌^◌, List, [], ◌∷◌, ◌++◌, All, length, refl, ap, sym, ◌∙◌, subst, length-append, arith}
 use Rattle.std.specs.List.{AllByRecursion}
 use Rattle.std.proofs.lemmas.List.{length-map}
 use Rattle.switch_event.specs.Config.{Config}
@@ -12,17 +12,11 @@ use Rattle.history_defs.specs.Output.{controls_in, records_of}
 use Rattle.history_defs.proofs.PlaceLemmas.{controls_in-append}
 use Rattle.history_defs.proofs.OutputLemmas.{flat_more}
 use Rattle.legal_defs.specs.Runs as legal
-use Rattle.legal_defs.specs.Legal.{IsLegal, LegalBy, IsBegun}
+use Rattle.legal_defs.specs.Legal.{IsBegun}
 use Rattle.race_lanes.specs.Lanes as lane
 use Rattle.race_lanes.specs.Standing.{Run, Stands, records_in}
 use Rattle.race_lanes.proofs.Ending.{stands_begun}
-use Rattle.race_run.specs.Runs.{MayCome, MayRun, RanPhase}
-use Rattle.race_phases.specs.declared.parallel.InParallel.{InParallel}
-use Rattle.race_run.specs.Ending.{RunEnds}
-use Rattle.race_run.specs.declared.ending.Ending.{Ending}
-use Rattle.race_run.specs.declared.ending.Ending.TheVariants.{Done, NoMemory, Refused, ReadFault, WriteFault, Full, TooLong}
-use Rattle.race_run.proofs.FateLemmas.{RunEnds-as}
-use Rattle.race_phases.specs.Raced.{HasRaced, RaceEnds, begun_by, legal_by, gave}
+use Rattle.race_run.specs.Runs.{MayCome, MayRun}
 use Rattle.race_lanes.specs.Raced.{RacedBy}
 
 records_many : (ps : List (List Record)) → records_in ps ≡ length (records_of ps)

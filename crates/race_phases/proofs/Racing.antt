@@ -1,22 +1,12 @@
 -- Phases as a trace has them, and as lanes and workers run them.
-use Rattle.std.proofs.Common.{◌≡◌, ℕ, zero, suc, ◌+◌, ◌<◌, ◌≤◌, ◌^◌, List, [], ◌∷◌, ◌++◌, All, Option, None, Some, Result, Ok, Err, IfOk, MatchOption, length, refl, ap, sym, ◌∙◌, subst, length-append, arith}
-use Rattle.std.specs.List.{AllByRecursion}
-use Rattle.std.proofs.lemmas.List.{length-map}
+use Rattle.std.proofs.Common.{◌≡◌, ℕ, ◌+◌, List, [], ◌∷◌, ◌++◌, Option, None, Some, Result, Ok, Err, IfOk, MatchOption, length, sym, subst}
 use Rattle.switch_event.specs.Config.{Config}
-use Rattle.event_record.specs.declared.TheConstants.{MOST_EVENTS}
 use Rattle.trace_defs.specs.Line.{Record}
-use Rattle.trace_defs.specs.Line.Record.{Control, Data}
-use Rattle.event_record.specs.declared.trace_record.TraceRecord.{TraceRecord}
-use Rattle.trace_defs.specs.Entered.{entered, entered_all}
-use Rattle.history_defs.specs.Output.{controls_in, records_of}
-use Rattle.history_defs.proofs.PlaceLemmas.{controls_in-append}
-use Rattle.history_defs.proofs.OutputLemmas.{flat_more}
+use Rattle.history_defs.specs.Output.{controls_in}
 use Rattle.legal_defs.specs.Runs as legal
 use Rattle.legal_defs.specs.Legal.{IsLegal, LegalBy, IsBegun}
-use Rattle.race_lanes.specs.Lanes as lane
-use Rattle.race_lanes.specs.Standing.{Run, Stands, records_in}
-use Rattle.race_lanes.proofs.Ending.{stands_begun}
-use Rattle.race_run.specs.Runs.{MayCome, MayRun, RanPhase}
+use Rattle.race_lanes.specs.Standing.{Run, Stands}
+use Rattle.race_run.specs.Runs.{RanPhase}
 use Rattle.race_phases.specs.declared.parallel.InParallel.{InParallel}
 use Rattle.race_run.specs.Ending.{RunEnds}
 use Rattle.race_run.specs.declared.ending.Ending.{Ending}
@@ -24,7 +14,7 @@ use Rattle.race_run.specs.declared.ending.Ending.TheVariants.{Done, NoMemory, Re
 use Rattle.race_run.proofs.FateLemmas.{RunEnds-as}
 use Rattle.race_phases.specs.Raced.{HasRaced, RaceEnds, begun_by, legal_by, gave}
 use Rattle.race_lanes.specs.Raced.{RacedBy}
-use Rattle.race_lanes.proofs.Raced.{numbers_fit, may_come, controls_fit, raced_none, raced_begun, raced_more}
+use Rattle.race_lanes.proofs.Raced.{raced_begun, raced_more}
 
 -- the run that was opened
 pub the_run : (o : Option Run) (r : Run) (P : Run → Type 0) → o ≡ Some r → MatchOption o ⊥ P → P r

@@ -1,7 +1,6 @@
 -- What a run on lanes and workers gives, and how it ends.
-use Rattle.std.specs.Prelude.{◌≡◌, ℕ, List, Option, MatchOption, slice_index_or}
+use Rattle.std.specs.Prelude.{ℕ, List, Option, MatchOption, slice_index_or}
 use Rattle.switch_event.specs.Config.{Config}
-use Rattle.trace_defs.specs.Line.{Record}
 use Rattle.legal_defs.specs.Legal.{IsLegal, IsBegun}
 use Rattle.race_lanes.specs.Standing.{Run}
 use Rattle.race_lanes.specs.Raced.{RacedBy}

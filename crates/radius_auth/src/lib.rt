@@ -8,9 +8,6 @@ ghost use Rattle.radius_defs.specs.Digest as digest;
 
 use md5::{Digest, Md5};
 
-#[cfg(test)]
-mod tests;
-
 // What the octets of the key's block are changed by (RFC 2104, section 2).
 const INNER_PAD: u8 = 0x36;
 

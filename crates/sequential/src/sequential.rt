@@ -6,11 +6,11 @@ ghost use Rattle.sequential.specs.Records.{Stands};
 
 use arrayvec::ArrayVec;
 use auth_table::{Table, opening};
-use table_defs::Item;
 use authenticator::Authenticator;
 use out_tray::Tray;
 use std::alloc::{AllocError, Global};
 use switch_event::Config;
+use table_defs::Item;
 
 // How many sessions there may be: 16 on each of 60 ports.
 const SESSIONS: usize = 960;

@@ -45,20 +45,187 @@ fn times() -> Times
     }
 }
 
-fn accepts(eap: &[u8], timeout_reauth: u32) -> Step<'_> {
-    Step::Told(Verdict::Accept {
-        eap: Some(eap),
-        timeout_reauth,
-    })
-}
+const ACCEPTS: Step<'static> = Step::Told(Verdict::Accept {
+    eap: Some(&SUCCESS),
+    timeout_reauth: 0,
+});
 
-fn challenges(eap: &[u8]) -> Step<'_> {
-    Step::Told(Verdict::Challenge { eap, wait: 0 })
-}
+const ACCEPTS_5: Step<'static> = Step::Told(Verdict::Accept {
+    eap: Some(&SUCCESS),
+    timeout_reauth: 5,
+});
+
+const CHALLENGES: Step<'static> = Step::Told(Verdict::Challenge {
+    eap: &ASKED,
+    wait: 0,
+});
 
 const REJECTS: Step<'static> = Step::Told(Verdict::Reject { eap: None });
 
 const PASSES: Step<'static> = Step::Second { gave_up: false };
+
+// What happens to a pair, and what it then shows.
+#[derive(Clone, Copy)]
+enum Row {
+    // At this step both look alike, and the host is sent this packet, or where it is empty none.
+    Step(Step<'static>, &'static [u8]),
+    // So many seconds go by without a word.
+    Silent(u32),
+    // The machines took so many rows.
+    Took(u32),
+    // The host was sent this packet last.
+    Sent(&'static [u8]),
+    // It is let in.
+    Authorised(bool),
+    // It is held.
+    Held(bool),
+    // It was given up.
+    Gone(bool),
+    // The identifier of its last request.
+    Id(u8),
+    // The identity and the response that the server is asked about.
+    Asked(&'static [u8], &'static [u8]),
+}
+
+// What a history shows, and its rows.
+#[derive(Clone, Copy)]
+struct History {
+    shows: &'static str,
+    rows: &'static [Row],
+}
+
+const HISTORIES: [History; 11] = [
+    History {
+        shows: "a host is asked for its identity and let in",
+        rows: &[
+            Row::Took(8),
+            Row::Sent(&FIRST),
+            Row::Authorised(false),
+            Row::Step(Step::Eap(&BOB), &[]),
+            Row::Took(4),
+            Row::Asked(b"bob", &BOB),
+            Row::Step(ACCEPTS, &SUCCESS),
+            Row::Took(4),
+            Row::Authorised(true),
+            Row::Id(1),
+            Row::Silent(4000),
+        ],
+    },
+    History {
+        shows: "a challenge goes to the host as it came and its response to the server",
+        rows: &[
+            Row::Step(Step::Eap(&BOB), &[]),
+            Row::Step(CHALLENGES, &ASKED),
+            Row::Step(Step::Eap(&ANSWER), &[]),
+            Row::Id(9),
+            Row::Asked(b"bob", &ANSWER),
+        ],
+    },
+    History {
+        shows: "a response with another identifier is ignored",
+        rows: &[
+            Row::Step(Step::Eap(&LATE), &[]),
+            Row::Took(5),
+            Row::Asked(&[], &[]),
+            Row::Step(Step::Eap(&BOB), &[]),
+            Row::Asked(b"bob", &BOB),
+        ],
+    },
+    History {
+        shows: "a host that says nothing is asked eight times and given up after 80 seconds",
+        rows: &[
+            Row::Silent(9),
+            Row::Step(PASSES, &FIRST),
+            Row::Silent(9),
+            Row::Step(PASSES, &FIRST),
+            Row::Silent(9),
+            Row::Step(PASSES, &FIRST),
+            Row::Silent(9),
+            Row::Step(PASSES, &SECOND),
+            Row::Silent(9),
+            Row::Step(PASSES, &SECOND),
+            Row::Silent(9),
+            Row::Step(PASSES, &SECOND),
+            Row::Silent(9),
+            Row::Step(PASSES, &SECOND),
+            Row::Silent(9),
+            Row::Gone(false),
+            Row::Silent(1),
+            Row::Gone(true),
+        ],
+    },
+    History {
+        shows: "a second start takes the next identifier and a third the fourth",
+        rows: &[
+            Row::Step(Step::Start, &SECOND),
+            Row::Step(Step::Start, &FOURTH),
+        ],
+    },
+    History {
+        shows: "a host that was refused is asked again after the quiet period",
+        rows: &[
+            Row::Step(Step::Eap(&BOB), &[]),
+            Row::Step(REJECTS, &FAILURE),
+            Row::Step(Step::Start, &[]),
+            Row::Held(true),
+            Row::Authorised(false),
+            Row::Silent(59),
+            Row::Held(true),
+            Row::Step(PASSES, &SECOND),
+            Row::Held(false),
+        ],
+    },
+    History {
+        shows: "a host is authenticated again after the time that the server gave",
+        rows: &[
+            Row::Step(Step::Eap(&BOB), &[]),
+            Row::Step(ACCEPTS_5, &SUCCESS),
+            Row::Authorised(true),
+            Row::Silent(4),
+            Row::Step(PASSES, &SECOND),
+            Row::Authorised(true),
+        ],
+    },
+    History {
+        shows: "a session that is to end has the identifier of its last request",
+        rows: &[
+            Row::Step(Step::Eap(&BOB), &[]),
+            Row::Step(ACCEPTS, &SUCCESS),
+            Row::Silent(5),
+            Row::Id(1),
+        ],
+    },
+    History {
+        shows: "a change of the session sets the time of reauthentication",
+        rows: &[
+            Row::Step(Step::Eap(&BOB), &[]),
+            Row::Step(ACCEPTS, &SUCCESS),
+            Row::Step(Step::Times { reauth: 600 }, &[]),
+            Row::Silent(599),
+            Row::Step(PASSES, &SECOND),
+            Row::Authorised(true),
+        ],
+    },
+    History {
+        shows: "a logoff shuts the host out and asks it for its identity",
+        rows: &[
+            Row::Step(Step::Eap(&BOB), &[]),
+            Row::Step(ACCEPTS, &SUCCESS),
+            Row::Step(Step::Logoff, &SECOND),
+            Row::Authorised(false),
+        ],
+    },
+    History {
+        shows: "a server that was given up shows once its time has run out",
+        rows: &[
+            Row::Step(Step::Eap(&BOB), &[]),
+            Row::Silent(14),
+            Row::Step(Step::Second { gave_up: true }, &[]),
+            Row::Silent(14),
+            Row::Step(PASSES, &SECOND),
+        ],
+    },
+];
 
 // What the host is sent: the EAP packet of the one frame, and nothing where there is no frame.
 fn is_sent(pair: &Pair, eap: &[u8]) -> bool {
@@ -78,14 +245,18 @@ fn is_sent(pair: &Pair, eap: &[u8]) -> bool {
     }
 }
 
-// Whether at each step both look alike and the host is sent this packet.
-fn plays(pair: &mut Pair, steps: &[(Step<'_>, &[u8])]) -> bool {
-    for (step, eap) in steps {
-        if !pair.takes(*step) || !is_sent(pair, eap) {
-            return false;
-        }
+fn holds(pair: &mut Pair, row: Row) -> bool {
+    match row {
+        Row::Step(step, eap) => pair.takes(step) && is_sent(pair, eap),
+        Row::Silent(seconds) => is_silent(pair, seconds),
+        Row::Took(rows) => pair.rows == rows,
+        Row::Sent(eap) => is_sent(pair, eap),
+        Row::Authorised(is) => pair.host.authorised() == is,
+        Row::Held(is) => pair.host.held() == is,
+        Row::Gone(is) => pair.v.gone == is,
+        Row::Id(id) => pair.host.id() == id,
+        Row::Asked(identity, response) => pair.host.asked() == (identity, response),
     }
-    true
 }
 
 // Whether so many seconds go by without a word.
@@ -98,163 +269,102 @@ fn is_silent(pair: &mut Pair, seconds: u32) -> bool {
     true
 }
 
-// A session that was let in as `bob`, with this Session-Timeout of reauthentication.
-fn let_in(alloc: Global, reauth: u32) -> Result<Pair, AllocError> {
-    let mut pair = Pair::open(alloc, HOST, &times())?;
-    let _alike = plays(
-        &mut pair,
-        &[
-            (Step::Eap(&BOB), [].as_slice()),
-            (accepts(&SUCCESS, reauth), SUCCESS.as_slice()),
-        ],
-    );
-    Ok(pair)
-}
-
-#[test]
-fn a_host_is_asked_for_its_identity_and_let_in(rt: HostRuntime) {
-    let mut pair = Pair::open(rt.alloc(), HOST, &times()).expect(&rt, "there is memory");
-    assert!(rt; is_sent(&pair, &FIRST) && !pair.host.authorised());
-    assert!(rt; plays(&mut pair, &[(Step::Eap(&BOB), [].as_slice())]));
-    assert!(rt; pair.host.asked().0 == b"bob".as_slice() && pair.host.asked().1 == BOB.as_slice());
-    assert!(rt; plays(&mut pair, &[(accepts(&SUCCESS, 0), SUCCESS.as_slice())]));
-    assert!(rt; pair.host.authorised() && pair.host.id() == 1);
-    assert!(rt; is_silent(&mut pair, 4000));
-}
-
-#[test]
-fn a_challenge_goes_to_the_host_as_it_came_and_its_response_to_the_server(rt: HostRuntime) {
-    let mut pair = Pair::open(rt.alloc(), HOST, &times()).expect(&rt, "there is memory");
-    let steps = [
-        (Step::Eap(&BOB), [].as_slice()),
-        (challenges(&ASKED), ASKED.as_slice()),
-        (Step::Eap(&ANSWER), [].as_slice()),
-    ];
-    assert!(rt; plays(&mut pair, &steps) && pair.host.id() == 9);
-    assert!(rt;
-        pair.host.asked().0 == b"bob".as_slice() && pair.host.asked().1 == ANSWER.as_slice()
-    );
-}
-
-#[test]
-fn a_response_with_another_identifier_is_ignored(rt: HostRuntime) {
-    let mut pair = Pair::open(rt.alloc(), HOST, &times()).expect(&rt, "there is memory");
-    assert!(rt; plays(&mut pair, &[(Step::Eap(&LATE), [].as_slice())]));
-    assert!(rt; pair.host.asked().0.is_empty() && pair.host.asked().1.is_empty());
-    assert!(rt; plays(&mut pair, &[(Step::Eap(&BOB), [].as_slice())]));
-    assert!(rt; pair.host.asked().1 == BOB.as_slice());
-}
-
-#[test]
-fn a_host_that_says_nothing_is_asked_eight_times_and_given_up_after_80_seconds(rt: HostRuntime) {
-    let mut pair = Pair::open(rt.alloc(), HOST, &times()).expect(&rt, "there is memory");
-    for request in [FIRST, FIRST, FIRST, SECOND, SECOND, SECOND, SECOND] {
-        assert!(rt; is_silent(&mut pair, 9) && plays(&mut pair, &[(PASSES, request.as_slice())]));
+// The first row that does not hold.
+fn otherwise(pair: &mut Pair, rows: &[Row]) -> Option<usize> {
+    for (at, row) in rows.iter().enumerate() {
+        if !holds(pair, *row) {
+            return Some(at);
+        }
     }
-    assert!(rt; is_silent(&mut pair, 9) && !pair.v.gone);
-    assert!(rt; is_silent(&mut pair, 1) && pair.v.gone);
+    None
+}
+
+fn opened(alloc: Global) -> Result<Pair, AllocError> {
+    Pair::open(alloc, HOST, &times())
 }
 
 #[test]
-fn a_second_start_takes_the_next_identifier_and_a_third_the_fourth(rt: HostRuntime) {
-    let mut pair = Pair::open(rt.alloc(), HOST, &times()).expect(&rt, "there is memory");
-    let steps = [
-        (Step::Start, SECOND.as_slice()),
-        (Step::Start, FOURTH.as_slice()),
-    ];
-    assert!(rt; plays(&mut pair, &steps));
+fn a_host_is_sent_the_same_by_both(rt: HostRuntime) {
+    for history in HISTORIES {
+        let mut pair = opened(rt.alloc()).expect(&rt, "there is memory");
+        let shows = history.shows;
+        assert_eq!(rt; otherwise(&mut pair, history.rows), None, "{shows}");
+    }
 }
 
-#[test]
-fn a_host_that_was_refused_is_asked_again_after_the_quiet_period(rt: HostRuntime) {
-    let mut pair = Pair::open(rt.alloc(), HOST, &times()).expect(&rt, "there is memory");
-    let steps = [
-        (Step::Eap(&BOB), [].as_slice()),
-        (REJECTS, FAILURE.as_slice()),
-        (Step::Start, [].as_slice()),
-    ];
-    assert!(rt; plays(&mut pair, &steps) && pair.host.held() && !pair.host.authorised());
-    assert!(rt; is_silent(&mut pair, 59) && pair.host.held());
-    assert!(rt; plays(&mut pair, &[(PASSES, SECOND.as_slice())]) && !pair.host.held());
-}
+const LET_IN: [Row; 2] = [
+    Row::Step(Step::Eap(&BOB), &[]),
+    Row::Step(ACCEPTS, &SUCCESS),
+];
 
-#[test]
-fn a_host_is_authenticated_again_after_the_time_that_the_server_gave(rt: HostRuntime) {
-    let mut pair = let_in(rt.alloc(), 5).expect(&rt, "there is memory");
-    assert!(rt; pair.host.authorised() && is_silent(&mut pair, 4));
-    assert!(rt; plays(&mut pair, &[(PASSES, SECOND.as_slice())]) && pair.host.authorised());
-}
+const LET_IN_FOR_5: [Row; 2] = [
+    Row::Step(Step::Eap(&BOB), &[]),
+    Row::Step(ACCEPTS_5, &SUCCESS),
+];
 
-#[test]
-fn a_session_that_is_to_end_has_the_identifier_of_its_last_request(rt: HostRuntime) {
-    let mut pair = let_in(rt.alloc(), 0).expect(&rt, "there is memory");
-    assert!(rt; is_silent(&mut pair, 5) && pair.host.id() == 1);
+fn two_are_let_in(one: &mut Pair, two: &mut Pair) -> bool {
+    otherwise(one, &LET_IN).is_none()
+        && two.takes(Step::Eap(&BOB))
+        && two.takes(ACCEPTS)
+        && one.host.authorised()
+        && two.host.authorised()
+        && one.host.asked().0 == two.host.asked().0
+        && one.takes(Step::Logoff)
+        && !one.host.authorised()
+        && two.host.authorised()
 }
 
 #[test]
 fn two_hosts_are_let_in_beside_each_other(rt: HostRuntime) {
-    let mut one = let_in(rt.alloc(), 0).expect(&rt, "there is memory");
+    let mut one = opened(rt.alloc()).expect(&rt, "there is memory");
     let other = Mac([0x02, 0x00, 0x00, 0x00, 0x00, 0xbb]);
     let mut two = Pair::open(rt.alloc(), other, &times()).expect(&rt, "there is memory");
-    assert!(rt; two.takes(Step::Eap(&BOB)) && two.takes(accepts(&SUCCESS, 0)));
-    assert!(rt; one.host.authorised() && two.host.authorised());
-    assert!(rt; one.host.asked().0 == two.host.asked().0);
-    assert!(rt; one.takes(Step::Logoff) && !one.host.authorised() && two.host.authorised());
+    assert!(rt; two_are_let_in(&mut one, &mut two));
 }
 
-#[test]
-fn a_change_of_the_session_sets_the_time_of_reauthentication(rt: HostRuntime) {
-    let mut pair = let_in(rt.alloc(), 0).expect(&rt, "there is memory");
-    assert!(rt; plays(&mut pair, &[(Step::Times { reauth: 600 }, [].as_slice())]));
-    assert!(rt; is_silent(&mut pair, 599));
-    assert!(rt; plays(&mut pair, &[(PASSES, SECOND.as_slice())]) && pair.host.authorised());
-}
+const SERVED: [Row; 1] = [Row::Step(Step::Eap(&BOB), &[])];
 
-#[test]
-fn a_logoff_shuts_the_host_out_and_asks_it_for_its_identity(rt: HostRuntime) {
-    let mut pair = let_in(rt.alloc(), 0).expect(&rt, "there is memory");
-    assert!(rt; plays(&mut pair, &[(Step::Logoff, SECOND.as_slice())]) && !pair.host.authorised());
-}
+const ANEW: [Row; 4] = [
+    Row::Sent(&FIRST),
+    Row::Asked(&[], &[]),
+    Row::Step(ACCEPTS, &[]),
+    Row::Authorised(false),
+];
 
 #[test]
 fn a_session_that_is_opened_anew_knows_nothing_of_the_one_before(rt: HostRuntime) {
-    let mut pair = Pair::open(rt.alloc(), HOST, &times()).expect(&rt, "there is memory");
-    assert!(rt; plays(&mut pair, &[(Step::Eap(&BOB), [].as_slice())]));
-    let mut pair = Pair::open(rt.alloc(), HOST, &times()).expect(&rt, "there is memory");
-    assert!(rt; is_sent(&pair, &FIRST) && pair.host.asked().0.is_empty());
-    assert!(rt; plays(&mut pair, &[(accepts(&SUCCESS, 0), [].as_slice())]));
-    assert!(rt; !pair.host.authorised());
+    let mut pair = opened(rt.alloc()).expect(&rt, "there is memory");
+    assert_eq!(rt; otherwise(&mut pair, &SERVED), None);
+    pair = opened(rt.alloc()).expect(&rt, "there is memory");
+    assert_eq!(rt; otherwise(&mut pair, &ANEW), None);
 }
 
-#[test]
-fn a_server_that_was_given_up_shows_once_its_time_has_run_out(rt: HostRuntime) {
-    let mut pair = Pair::open(rt.alloc(), HOST, &times()).expect(&rt, "there is memory");
-    assert!(rt; plays(&mut pair, &[(Step::Eap(&BOB), [].as_slice())]));
-    assert!(rt; is_silent(&mut pair, 14));
-    assert!(rt;
-        plays(
-            &mut pair,
-            &[(Step::Second { gave_up: true }, [].as_slice())]
-        )
-    );
-    assert!(rt; is_silent(&mut pair, 14) && plays(&mut pair, &[(PASSES, SECOND.as_slice())]));
+// Three hosts become one another: the first asks the server, the second is let in for 5 seconds, the
+// third for good.
+fn copies_are_right(served: &mut Pair, admitted: &mut Pair, other: &mut Pair) -> bool {
+    other.host.copy_from(&admitted.host);
+    admitted.host.copy_from(&served.host);
+    let asks = !admitted.host.authorised() && admitted.host.asked().1 == BOB.as_slice();
+    served.host.copy_from(&other.host);
+    let is_in = served.host.authorised() && served.host.asked().1.is_empty();
+    served.host.copy_from(&admitted.host);
+    admitted.host.copy_from(&other.host);
+    asks && is_in
 }
+
+const ASKED_AGAIN: [Row; 2] = [Row::Silent(29), Row::Step(PASSES, &SECOND)];
+
+const AGAIN_AFTER_5: [Row; 2] = [Row::Silent(4), Row::Step(PASSES, &SECOND)];
 
 #[test]
 fn a_copy_goes_on_like_the_host_that_it_was_made_of(rt: HostRuntime) {
-    let mut served = Pair::open(rt.alloc(), HOST, &times()).expect(&rt, "there is memory");
-    assert!(rt; plays(&mut served, &[(Step::Eap(&BOB), [].as_slice())]));
-    let mut admitted = let_in(rt.alloc(), 5).expect(&rt, "there is memory");
-    let mut other = let_in(rt.alloc(), 0).expect(&rt, "there is memory");
-    other.host.copy_from(&admitted.host);
-    admitted.host.copy_from(&served.host);
-    assert!(rt; !admitted.host.authorised() && admitted.host.asked().1 == BOB.as_slice());
-    served.host.copy_from(&other.host);
-    assert!(rt; served.host.authorised() && served.host.asked().1.is_empty());
-    served.host.copy_from(&admitted.host);
-    admitted.host.copy_from(&other.host);
-    assert!(rt; is_silent(&mut served, 29) && plays(&mut served, &[(PASSES, SECOND.as_slice())]));
-    assert!(rt;
-        is_silent(&mut admitted, 4) && plays(&mut admitted, &[(PASSES, SECOND.as_slice())])
-    );
+    let mut served = opened(rt.alloc()).expect(&rt, "there is memory");
+    let mut admitted = opened(rt.alloc()).expect(&rt, "there is memory");
+    let mut other = opened(rt.alloc()).expect(&rt, "there is memory");
+    assert_eq!(rt; otherwise(&mut served, &SERVED), None);
+    assert_eq!(rt; otherwise(&mut admitted, &LET_IN_FOR_5), None);
+    assert_eq!(rt; otherwise(&mut other, &LET_IN), None);
+    assert!(rt; copies_are_right(&mut served, &mut admitted, &mut other));
+    assert_eq!(rt; otherwise(&mut served, &ASKED_AGAIN), None);
+    assert_eq!(rt; otherwise(&mut admitted, &AGAIN_AFTER_5), None);
 }

@@ -31,6 +31,8 @@ pub(crate) struct Pair {
     pub(crate) host: Host,
     one: Tray,
     pub(crate) two: Tray,
+    // How many rows of the machines were taken last.
+    pub(crate) rows: u32,
 }
 
 impl Model for Pair {
@@ -53,100 +55,156 @@ impl Pair {
         let mut two = Tray::open(alloc, 1)?;
         let own = Mac([0x02, 0x00, 0x00, 0x01, 0x01, 0x01]);
         let mut v = fresh(1, own, peer, Control::Auto, times);
-        let _rows = settle(&mut v, &mut one);
+        let rows = settle(&mut v, &mut one);
         let host = open(1, own, peer, times, &mut two);
-        Ok(Pair { v, host, one, two })
+        Ok(Pair {
+            v,
+            host,
+            one,
+            two,
+            rows,
+        })
     }
 
     // The event comes to both, and what is wanted of the server counts as done. Whether both look
     // alike.
-    #[tactic(auto, using(crate::proofs::Ready::may_be_settled))]
     pub(crate) fn takes(&mut self, step: Step<'_>) -> bool {
+        self.hands(step) && self.looks_alike()
+    }
+
+    // The event comes to both. False where it is none that may come.
+    fn hands(&mut self, step: Step<'_>) -> bool {
+        match step {
+            Step::Start => self.starts(),
+            Step::Logoff => self.logs_off(),
+            Step::Eap(eap) => self.responds(eap),
+            Step::Told(verdict) => self.is_told(&verdict),
+            Step::Second { gave_up } => self.ages(gave_up),
+            Step::Times { reauth } => self.is_changed(reauth),
+        }
+    }
+
+    #[tactic(auto, using(crate::proofs::Ready::may_be_settled))]
+    fn starts(&mut self) -> bool {
         self.one.clear();
         self.two.clear();
-        match step {
-            Step::Start => {
-                start(&mut self.v);
-                let _rows = settle(&mut self.v, &mut self.one);
-                self.host.on_start(&mut self.two);
-            }
-            Step::Logoff => {
-                log_off(&mut self.v);
-                let _rows = settle(&mut self.v, &mut self.one);
-                self.host.on_logoff(&mut self.two);
-            }
-            Step::Eap(eap) => {
-                if eap.len() > 1500 {
-                    return false;
-                }
-                receive(&mut self.v, eap);
-                let _rows = settle(&mut self.v, &mut self.one);
-                self.host.on_eap(eap, &mut self.two);
-            }
-            Step::Told(verdict) => {
-                if !is_told(&verdict) || !self.hears(&verdict) {
-                    return false;
-                }
-                self.two.clear();
-                self.host.on_server(&verdict, &mut self.two);
-            }
-            Step::Second { gave_up } => {
-                second(&mut self.v, gave_up);
-                let _rows = settle(&mut self.v, &mut self.one);
-                self.host.on_second(gave_up, &mut self.two);
-            }
-            Step::Times { reauth } => {
-                let _rows = settle(&mut self.v, &mut self.one);
-                let (again, period) = self.times(reauth);
-                if period == 0 {
-                    return false;
-                }
-                change(&mut self.v, again, period);
-                self.host.set_times(reauth);
-            }
+        start(&mut self.v);
+        self.rows = settle(&mut self.v, &mut self.one);
+        self.host.on_start(&mut self.two);
+        true
+    }
+
+    #[tactic(auto, using(crate::proofs::Ready::may_be_settled))]
+    fn logs_off(&mut self) -> bool {
+        self.one.clear();
+        self.two.clear();
+        log_off(&mut self.v);
+        self.rows = settle(&mut self.v, &mut self.one);
+        self.host.on_logoff(&mut self.two);
+        true
+    }
+
+    #[tactic(auto, using(crate::proofs::Ready::may_be_settled))]
+    fn responds(&mut self, eap: &[u8]) -> bool {
+        self.one.clear();
+        self.two.clear();
+        if eap.len() > 1500 {
+            return false;
         }
-        self.looks_alike()
+        receive(&mut self.v, eap);
+        self.rows = settle(&mut self.v, &mut self.one);
+        self.host.on_eap(eap, &mut self.two);
+        true
+    }
+
+    fn is_told(&mut self, verdict: &Verdict<'_>) -> bool {
+        if !is_told(verdict) || !self.hears(verdict) {
+            return false;
+        }
+        self.two.clear();
+        self.host.on_server(verdict, &mut self.two);
+        true
+    }
+
+    #[tactic(auto, using(crate::proofs::Ready::may_be_settled))]
+    fn ages(&mut self, gave_up: bool) -> bool {
+        self.one.clear();
+        self.two.clear();
+        second(&mut self.v, gave_up);
+        self.rows = settle(&mut self.v, &mut self.one);
+        self.host.on_second(gave_up, &mut self.two);
+        true
+    }
+
+    #[tactic(auto, using(crate::proofs::Ready::may_be_settled))]
+    fn is_changed(&mut self, reauth: u32) -> bool {
+        self.one.clear();
+        self.two.clear();
+        self.rows = settle(&mut self.v, &mut self.one);
+        let (again, period) = self.times(reauth);
+        if period == 0 {
+            return false;
+        }
+        change(&mut self.v, again, period);
+        self.host.set_times(reauth);
+        true
     }
 
     // An answer of the server comes to the variables. Without a packet an Accept and a Reject carry
     // the plain Success and Failure (RFC 3748, 4.2).
     fn hears(&mut self, verdict: &Verdict<'_>) -> bool {
-        self.one.clear();
         let success = [3, self.v.current_id, 0, 4];
         let failure = [4, self.v.current_id, 0, 4];
         match *verdict {
-            Verdict::Challenge { eap, wait } => {
-                if !is_carried(eap) {
-                    return false;
-                }
-                challenge(&mut self.v, eap, wait);
-                let _rows = settle(&mut self.v, &mut self.one);
-            }
-            Verdict::Notice => {
-                notice(&mut self.v);
-                let _rows = settle(&mut self.v, &mut self.one);
-            }
+            Verdict::Challenge { eap, wait } => self.is_challenged(eap, wait),
+            Verdict::Notice => self.is_noticed(),
             Verdict::Accept {
                 eap,
                 timeout_reauth,
-            } => {
-                let (again, period) = self.times(timeout_reauth);
-                let eap = eap.unwrap_or(success.as_slice());
-                if !is_carried(eap) || period == 0 {
-                    return false;
-                }
-                accept(&mut self.v, eap, again, period);
-                let _rows = settle(&mut self.v, &mut self.one);
-            }
-            Verdict::Reject { eap } => {
-                let eap = eap.unwrap_or(failure.as_slice());
-                if !is_carried(eap) {
-                    return false;
-                }
-                reject(&mut self.v, eap);
-                let _rows = settle(&mut self.v, &mut self.one);
-            }
+            } => self.is_accepted(eap.unwrap_or(success.as_slice()), timeout_reauth),
+            Verdict::Reject { eap } => self.is_rejected(eap.unwrap_or(failure.as_slice())),
         }
+    }
+
+    #[tactic(auto, using(crate::proofs::Ready::may_be_settled))]
+    fn is_challenged(&mut self, eap: &[u8], wait: u32) -> bool {
+        self.one.clear();
+        if !is_carried(eap) {
+            return false;
+        }
+        challenge(&mut self.v, eap, wait);
+        self.rows = settle(&mut self.v, &mut self.one);
+        true
+    }
+
+    #[tactic(auto, using(crate::proofs::Ready::may_be_settled))]
+    fn is_noticed(&mut self) -> bool {
+        self.one.clear();
+        notice(&mut self.v);
+        self.rows = settle(&mut self.v, &mut self.one);
+        true
+    }
+
+    #[tactic(auto, using(crate::proofs::Ready::may_be_settled))]
+    fn is_accepted(&mut self, eap: &[u8], timeout_reauth: u32) -> bool {
+        self.one.clear();
+        let (again, period) = self.times(timeout_reauth);
+        if !is_carried(eap) || period == 0 {
+            return false;
+        }
+        accept(&mut self.v, eap, again, period);
+        self.rows = settle(&mut self.v, &mut self.one);
+        true
+    }
+
+    #[tactic(auto, using(crate::proofs::Ready::may_be_settled))]
+    fn is_rejected(&mut self, eap: &[u8]) -> bool {
+        self.one.clear();
+        if !is_carried(eap) {
+            return false;
+        }
+        reject(&mut self.v, eap);
+        self.rows = settle(&mut self.v, &mut self.one);
         true
     }
 

@@ -15,13 +15,13 @@ use arrayvec::ArrayVec;
 use auth_journal::{Journal, JournalErr};
 use auth_publish::{Publisher, Receipt, Viewer, open};
 use auth_table::opening;
-use table_defs::Item;
 use authenticator::Authenticator;
 use out_tray::Tray;
 use std::alloc::{AllocError, Global};
 use std::marker::Model;
 use std::sync::Wait;
 use switch_event::{Config, Event, Outcome};
+use table_defs::Item;
 use thiserror::Error;
 
 /// What an accepted event is answered.

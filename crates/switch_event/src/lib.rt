@@ -14,6 +14,3 @@ pub use drop::{AaaDrop, DynDrop, FrameDrop};
 pub use event::{Event, Outcome};
 pub use machine_vars::{Control, Times};
 pub use sent::Sent;
-
-#[cfg(test)]
-mod tests;

@@ -192,36 +192,78 @@ fn records_print_without_lane_1_and_socket_0(rt: HostRuntime) -> Result<(), Fail
 fn each_outcome_has_its_text(rt: HostRuntime) -> Result<(), Fail> {
     let rows = [
         (Outcome::Done, "ok"),
-        (Outcome::FrameDropped(FrameDrop::Elsewhere), "drop elsewhere"),
-        (Outcome::FrameDropped(FrameDrop::GroupSource), "drop group-source"),
+        (
+            Outcome::FrameDropped(FrameDrop::Elsewhere),
+            "drop elsewhere",
+        ),
+        (
+            Outcome::FrameDropped(FrameDrop::GroupSource),
+            "drop group-source",
+        ),
         (Outcome::FrameDropped(FrameDrop::Down), "drop down"),
-        (Outcome::FrameDropped(FrameDrop::EapolShort), "drop eapol-short"),
+        (
+            Outcome::FrameDropped(FrameDrop::EapolShort),
+            "drop eapol-short",
+        ),
         (Outcome::FrameDropped(FrameDrop::Key), "drop key"),
-        (Outcome::FrameDropped(FrameDrop::EapolType), "drop eapol-type"),
-        (Outcome::FrameDropped(FrameDrop::BodyShort), "drop body-short"),
+        (
+            Outcome::FrameDropped(FrameDrop::EapolType),
+            "drop eapol-type",
+        ),
+        (
+            Outcome::FrameDropped(FrameDrop::BodyShort),
+            "drop body-short",
+        ),
         (Outcome::FrameDropped(FrameDrop::EapShort), "drop eap-short"),
         (Outcome::FrameDropped(FrameDrop::EapCode), "drop eap-code"),
-        (Outcome::FrameDropped(FrameDrop::EapLength), "drop eap-length"),
-        (Outcome::FrameDropped(FrameDrop::NotResponse), "drop not-response"),
+        (
+            Outcome::FrameDropped(FrameDrop::EapLength),
+            "drop eap-length",
+        ),
+        (
+            Outcome::FrameDropped(FrameDrop::NotResponse),
+            "drop not-response",
+        ),
         (Outcome::FrameDropped(FrameDrop::Forced), "drop forced"),
-        (Outcome::FrameDropped(FrameDrop::NoSession), "drop no-session"),
+        (
+            Outcome::FrameDropped(FrameDrop::NoSession),
+            "drop no-session",
+        ),
         (Outcome::FrameDropped(FrameDrop::PortFull), "drop port-full"),
         (Outcome::AnswerDropped(AaaDrop::Malformed), "drop malformed"),
-        (Outcome::AnswerDropped(AaaDrop::NoRequest), "drop no-request"),
+        (
+            Outcome::AnswerDropped(AaaDrop::NoRequest),
+            "drop no-request",
+        ),
         (Outcome::AnswerDropped(AaaDrop::BadCode), "drop bad-code"),
-        (Outcome::AnswerDropped(AaaDrop::BadAuthenticator), "drop bad-authenticator"),
-        (Outcome::AnswerDropped(AaaDrop::BadMessageAuth), "drop bad-message-auth"),
+        (
+            Outcome::AnswerDropped(AaaDrop::BadAuthenticator),
+            "drop bad-authenticator",
+        ),
+        (
+            Outcome::AnswerDropped(AaaDrop::BadMessageAuth),
+            "drop bad-message-auth",
+        ),
         (Outcome::AnswerDropped(AaaDrop::Oversize), "drop oversize"),
         (Outcome::AnswerDropped(AaaDrop::BadEap), "drop bad-eap"),
         (Outcome::Acked, "ack"),
         (Outcome::Naked(503), "nak 503"),
         (Outcome::Again, "again"),
         (Outcome::RequestDropped(DynDrop::Stranger), "drop stranger"),
-        (Outcome::RequestDropped(DynDrop::Malformed), "drop malformed"),
+        (
+            Outcome::RequestDropped(DynDrop::Malformed),
+            "drop malformed",
+        ),
         (Outcome::RequestDropped(DynDrop::Oversize), "drop oversize"),
         (Outcome::RequestDropped(DynDrop::BadCode), "drop bad-code"),
-        (Outcome::RequestDropped(DynDrop::BadAuthenticator), "drop bad-authenticator"),
-        (Outcome::RequestDropped(DynDrop::BadMessageAuth), "drop bad-message-auth"),
+        (
+            Outcome::RequestDropped(DynDrop::BadAuthenticator),
+            "drop bad-authenticator",
+        ),
+        (
+            Outcome::RequestDropped(DynDrop::BadMessageAuth),
+            "drop bad-message-auth",
+        ),
         (Outcome::RequestDropped(DynDrop::Stale), "drop stale"),
     ];
     let tray = Tray::open(rt.alloc(), 0)?;

@@ -9,9 +9,6 @@ use radius_attrs::{Tunnel, timeout, tunnel};
 pub use radius_defs::{Grant, Unfit};
 use radius_packet::Packet;
 
-#[cfg(test)]
-mod tests;
-
 /// The VLAN and the time that an Access-Accept grants on a port with this native VLAN, which
 /// counts where the packet names none. Unfit exactly where its tunnel attributes are Partial or
 /// Bad.

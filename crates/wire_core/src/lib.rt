@@ -10,6 +10,3 @@ pub use address::{Addr, Mac, Room};
 pub use number::{be16, be32, decimal, four_octets, two_octets};
 pub use room::{append, array_of, copied, fill, replace};
 pub use text::{station, station_of, upper_digit};
-
-#[cfg(test)]
-mod tests;

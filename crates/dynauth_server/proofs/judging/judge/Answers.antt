@@ -17,6 +17,7 @@ use Rattle.dynauth_defs.specs.declared.TheConstants.{MOST_REQUEST}
 use Rattle.switch_event.specs.declared.drop.DynDrop.TheVariants.{Oversize, BadCode}
 use Rattle.dynauth_server.specs.Known.{known}
 use Rattle.dynauth_server.specs.Lines.{answered}
+use Rattle.dynauth_defs.proofs.AnsweredLemmas.{acknowledged_actions}
 use Rattle.dynauth_server.proofs.JudgeLemmas.{judged-packet, judged-malformed, to-bad-auth, to-bad-message, to-again, to-stale, to-refusals, request-of}
 use Rattle.dynauth_server.proofs.judging.judge.Goals as goal
 
@@ -179,6 +180,10 @@ returns-in-Err-clause-line g c =
     let line : Nak c.in-Err.cause ≡ judged c.args.c.now c.args.kept.now c.args.now rows c.args.from c.args.b.now =
     sym (ap answered c.in-Err.is) ∙ c.answer.ensures ∙ to-refusals c.args.c.now c.in-Some.client.now c.in-Some.replies.now c.args.now rows c.args.from.port c.in-Ok.p long dynamic auth message new far ∙ sym whole in
     line
+
+pub returns-in-Ok-answer-clause-acked : goal.returns-in-Ok-answer-clause-acked
+returns-in-Ok-answer-clause-acked g c =
+    acknowledged_actions c.args.c.now c.args.kept.now c.args.now (g.R.Roll.rows c.args.roll.now) c.args.from c.args.b.now c.in-Ok-answer.action (sym (returns-in-Ok-answer-clause-line g c))
 
 pub returns-in-Err-clause-request : goal.returns-in-Err-clause-request
 returns-in-Err-clause-request g c =
