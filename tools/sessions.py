@@ -297,6 +297,7 @@ class Table:
         self.reader = reader
         self.rows = OrderedDict()  # by port and host
         self.pending = {}  # by socket and identifier of a request: port and host
+        self.controls = {}  # of ports, where a record has set it
         self.ended = []
         self.at = 0
         self.mistaken = 0  # data blocks that say otherwise than the rows did
@@ -325,7 +326,9 @@ class Table:
         elif record.kind == "link" and record.words[1] == "down":
             self.ends_all(record, "its link went down")
         elif record.kind == "control":
-            self.ends_all(record, "the control of its port was set")
+            if self.forced(record.port) != (record.words[1] != "auto"):
+                self.ends_all(record, "the control of its port was set")
+            self.controls[record.port] = record.words[1]
         for sent in record.sent:
             about = self.sent(record, sent) or about
         return about
@@ -355,8 +358,9 @@ class Table:
         return row
 
     def forced(self, port):
-        """Whether a port is forced, by its settings."""
-        return self.reader.ports().get(port, (0, "auto"))[1] != "auto"
+        """Whether a port is forced, by its settings and the records behind them."""
+        _, control = self.reader.ports().get(port, (0, "auto"))
+        return self.controls.get(port, control) != "auto"
 
     def sent(self, record, sent):
         """What was sent for a record: the row that it is about."""
