@@ -1,7 +1,7 @@
 #!/usr/bin/env python3
 """Runs the tools for people over what the built program writes.
 
-    people_cases.py [PROGRAM]      else crates/switch_run/out/switch_run
+    people_cases.py [PROGRAM [CASE..]]      else crates/switch_run/out/switch_run, and all cases
 
 Each tool is given fresh logs of `serve`, and the traces of data/ with what the program writes for
 them. What a tool says of a host must be what the program decides on its data frames; names must be
@@ -10,6 +10,7 @@ browser. Where a package or a right is missing, the case is skipped and says so.
 where something is not as it should be.
 """
 
+import functools
 import json
 import os
 import re
@@ -39,9 +40,19 @@ def wants(name, package):
         raise Skipped(f"no {name} (Debian's package {package})")
 
 
-def tool(name, *words, text=None, status=0):
+@functools.cache
+def with_scapy():
+    """A Python that has scapy."""
+    for python in (sys.executable, "/usr/bin/python3"):
+        words = [python, "-c", "import scapy.utils"]
+        if os.path.exists(python) and subprocess.run(words, capture_output=True).returncode == 0:
+            return python
+    raise Skipped("no scapy (Debian's package python3-scapy)")
+
+
+def tool(name, *words, text=None, status=0, python=sys.executable):
     """What a tool prints."""
-    ran = subprocess.run([sys.executable, os.path.join(TOOLS, name), *words], capture_output=True,
+    ran = subprocess.run([python, os.path.join(TOOLS, name), *words], capture_output=True,
                          input=text, timeout=SECONDS)
     need(ran.returncode == status, f"{name} {' '.join(words)} ended with {ran.returncode}: "
          + ran.stderr.decode(errors="replace")[-300:])
@@ -66,15 +77,18 @@ def a_log(program):
         peers.close()
 
 
+@functools.cache
 def written(program):
     """Each kept trace that is replayed: its name, its lines, and what the program writes for it."""
+    found = []
     for folder in run_cases.FOLDERS:
         for name, word, trace, _, _, _ in run_cases.kept(folder):
             if word == "replay":
                 ran = subprocess.run([program, word], input=trace, capture_output=True,
                                      timeout=SECONDS)
                 lines = (trace, ran.stdout)
-                yield (name, *(x.decode("latin-1").split("\n") for x in lines))
+                found.append((name, *(x.decode("latin-1").split("\n") for x in lines)))
+    return found
 
 
 def names_are_those_of_the_program(program):
@@ -95,7 +109,8 @@ def names_are_those_of_the_program(program):
         need(not unseen, f"names of drops of {of} that no trace shows: {unseen}")
     need(causes == set(names.ERROR_CAUSES), f"causes that differ: {causes}")
     with open(os.path.join(run_cases.TOP, "docs", "TRACE.md"), encoding="utf-8") as file:
-        told = set(re.findall(r"^\| \d+ \| `([a-z]+)`", file.read(), re.M))
+        part = file.read().split("## Reasons to refuse a line")[1].split("\n## ")[0]
+    told = set(re.findall(r"^\| \d+ \| `([a-z]+)`", part, re.M))
     need(told == set(names.REASONS), f"reasons that differ: {told ^ set(names.REASONS)}")
 
 
@@ -112,7 +127,7 @@ def names_are_those_of_packets(_):
 def sessions_are_those_of_the_program(program):
     """Whether a host is let in, and its VLAN, as the tool says before each data frame."""
     decided = mistaken = 0
-    for name, trace, output in written(program):
+    for _, trace, output in written(program):
         reader = s.Reader()
         table = s.Table(reader)
         for record in s.records(s.joined(trace, output), reader):
@@ -120,7 +135,7 @@ def sessions_are_those_of_the_program(program):
             decided += record.outcome in ("drop unauthorised",) or bool(record.session)
         mistaken += table.mistaken
     # Not all that ends a session is printed: it may be over in silence. Its next frame tells.
-    need(decided > 900 and mistaken <= 2, f"{mistaken} of {decided} decisions were foreseen wrongly")
+    need(decided > 800 and mistaken <= 2, f"{mistaken} of {decided} decisions were foreseen wrongly")
 
 
 def a_story_is_told(program):
@@ -185,15 +200,81 @@ def a_page_stands_in_a_browser(program):
         need(title[1] == b"1,true,true", f"the browser found {title[1].decode()}")
 
 
+def tshark(capture, *words):
+    """The lines that tshark prints of a capture."""
+    ran = subprocess.run(["tshark", "-r", capture, *words], capture_output=True, timeout=SECONDS)
+    need(ran.returncode == 0, f"tshark: {ran.stderr.decode(errors='replace')[-200:]}")
+    return ran.stdout.decode(errors="replace").splitlines()
+
+
+def a_log_is_a_capture(program):
+    """The capture of a log: all packets, and of those of the switch none with a complaint."""
+    python = with_scapy()
+    wants("tshark", "tshark")
+    log = a_log(program)
+    with tempfile.TemporaryDirectory() as folder:
+        at = os.path.join(folder, "log.pcapng")
+        said = tool("log2pcap.py", "--write", at, text=log, python=python).decode()
+        count = sum(re.match(r"(frame|radius|dyn|# [fry]) ", line) is not None
+                    for line in log.decode().splitlines())
+        need(said == f"{count} packets\n", f"{said!r} of {count}")
+        rows = tshark(at, "-d", "udp.port==50000,radius", "-T", "fields", "-e", "frame.comment", "-e", "_ws.expert.severity",
+                      "-e", "_ws.malformed", "-e", "radius.code")
+        need(len(rows) == count, f"tshark reads {len(rows)} packets of {count}")
+        for row in rows:
+            comment, severity, malformed, _ = row.split("\t")
+            # 0x600000 is a warning, 0x800000 an error; what was dropped may have both.
+            grave = [x for x in severity.split(",") if x and int(x, 0) >= 0x600000]
+            cut = "dropped" in comment or "forwarded" in comment  # the data frames are cut short
+            need(cut or not (grave or malformed), f"tshark complains of {row!r}")
+        codes = [int(row.rsplit("\t", 1)[1]) for row in rows if row.rsplit("\t", 1)[1]]
+        need({1, 2, 40, 41} <= set(codes), f"codes of RADIUS: {codes}")
+
+
+# Settings that people write wrongly: the lines, and what the remedy has to say.
+WRONG_SETTINGS = (
+    (b"server 127.0.0.1 1812 testing123\nbegin\n", "write 74657374696e67313233"),
+    (b"server 127.0.0.1 1812 00\n" + b"".join(b"client 10.0.0.%d 00\n" % k for k in range(1, 6))
+     + b"begin\n", "at most 4 clients"),
+    (b"server 127.0.0.1 1812 00\nport 1-48 10 auto\nbegin\n", "--ports 1-48"),
+    (b"server 127.0.0.1 1812 00\nport\t1 10 auto\nbegin\n", "a tab"),
+    (b"server 127.0.0.1 1812 00\nport 1 10 auto # uplink\nbegin\n", "a line of its own"),
+    (b"server 127.0.0.1 1812 00\n  # ports\nbegin\n", "very first octet"),
+    (b"port 1 10 auto\nbegin\n", "server IP PORT SECRET"),
+    (b"server 127.0.0.1 1812 00\nrestricted 1 99\nbegin\n", "the `port` before it"),
+    (b"server 127.0.0.1 1812 00\nport 1 10 open\nbegin\n", "force-unauth"),
+    (b"server 127.0.0.1 1812 00\nseed 00\nbegin\n", "64 hexadecimal digits"),
+)
+
+
+def settings_are_made_and_explained(program):
+    """Settings that are made are right; those that people write wrongly have their remedy."""
+    made = tool("settings.py", "--ports", "1-47", "--native", "10", "--restricted", "99", "--guest",
+                "98", "--uplink", "48", "--set", "reauth=on")
+    lines = made.decode().splitlines()
+    need(sum(line.endswith(" 10 auto") for line in lines) == 47, "not 47 guarded ports")
+    need("port 48 10 force-auth" in lines and "restricted 47 99" in lines, "no uplink, or no VLAN")
+    with tempfile.TemporaryDirectory() as folder:
+        at = os.path.join(folder, "settings")
+        for text, wanted in ((made, "are right"), *WRONG_SETTINGS):
+            with open(at, "wb") as file:
+                file.write(text)
+            status = 0 if text is made else 1
+            said = tool("settings.py", "--explain", at, "--program", program, status=status)
+            need(wanted in said.decode(), f"of {text!r} is said {said.decode()!r}")
+
+
 CASES = (names_are_those_of_the_program, names_are_those_of_packets,
          sessions_are_those_of_the_program, a_story_is_told, counters_are_the_programs,
-         a_page_stands_in_a_browser)
+         a_page_stands_in_a_browser, a_log_is_a_capture,
+         settings_are_made_and_explained)
 
 
 def main():
     program = sys.argv[1] if len(sys.argv) > 1 else run_cases.PROGRAM
     failed = skipped = 0
-    for case in CASES:
+    cases = [case for case in CASES if not sys.argv[2:] or case.__name__ in sys.argv[2:]]
+    for case in cases:
         try:
             case(program)
         except Skipped as why:
@@ -202,7 +283,7 @@ def main():
         except (Wrong, OSError, ValueError, subprocess.TimeoutExpired) as wrong:
             failed += 1
             print(f"{case.__name__}: {wrong}")
-    print(f"{len(CASES)} cases of the tools for people, {skipped} skipped, {failed} not as they "
+    print(f"{len(cases)} cases of the tools for people, {skipped} skipped, {failed} not as they "
           "should be")
     sys.exit(1 if failed else 0)
 
