@@ -14,11 +14,11 @@ ghost use Rattle.table_defs.specs.Change.{item_of};
 ghost use Rattle.authenticator.specs.Meaning.{IsEvent};
 
 use arrayvec::ArrayVec;
-use table_defs::Item;
 use out_tray::Tray;
 pub use settings::copied_config;
 use std::alloc::{AllocError, Global};
 use switch_event::{Config, Event, Outcome};
+use table_defs::Item;
 
 /// An authenticator stands for states of the switch. What it does in a turn is what a turn does to
 /// each of them.

@@ -2,9 +2,9 @@
 
 ghost use Rattle.std.specs.Prelude.{◌≡◌};
 
-use wire_core::copied;
 use arrayvec::ArrayVec;
 use switch_event::{Client, Config, Nas, PortConf};
+use wire_core::copied;
 
 /// The same settings once more.
 pub fn copied_config(c: &Config) -> Config

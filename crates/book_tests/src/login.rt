@@ -5,10 +5,10 @@ ghost use Rattle.switch_defs.specs.Switch.{most_sessions};
 ghost use Rattle.authenticator.specs.Meaning.{IsEvent};
 
 use arrayvec::ArrayVec;
+use auth_publish::Viewer;
 use authenticator::copied_config;
 use control_core::Core;
 use eth_frame::is_control;
-use auth_publish::Viewer;
 use forward_worker::Worker;
 use hex::FromHex;
 use machine_vars::Control;

@@ -15,10 +15,10 @@ ghost use Rattle.control_core.specs.Answering.{MayTell, told as told_lem};
 use crate::state::Core;
 use aaa_client::Taken;
 use arrayvec::ArrayVec;
-use table_defs::Item;
 use out_tray::Tray;
 use server_words::said;
 use switch_event::Outcome;
+use table_defs::Item;
 
 impl Core {
     // A datagram of the RADIUS server came to a socket.

@@ -15,14 +15,14 @@ ghost use Rattle.control_core.specs.Stands.{MayTurn};
 ghost use Rattle.control_core.specs.Does.{Does, IsHere, IsKnown, Turns};
 ghost use Rattle.control_core.specs.Hearing.{MayBegin, MayHear};
 
-use switch_event::limit::HOSTS_A_PORT;
 use crate::state::Core;
 use arrayvec::ArrayVec;
-use table_defs::Item;
 use host_frames::{Heard, Said, read};
 use machine_vars::Control;
 use out_tray::Tray;
+use switch_event::limit::HOSTS_A_PORT;
 use switch_event::{FrameDrop, Outcome, PortConf};
+use table_defs::Item;
 use wire_core::Mac;
 
 impl Core {

@@ -13,15 +13,15 @@ ghost use Rattle.control_core.specs.Stands.{Holds, MayTurn};
 ghost use Rattle.control_core.specs.Does.{Does, TellsOn, Turns};
 ghost use Rattle.control_core.specs.Walked.{MayClose, MayEnd};
 
-use wire_defs::PAE_GROUP;
 use crate::state::Core;
 use arrayvec::ArrayVec;
-use table_defs::Item;
 use eap_packet::identity_request;
 use machine_vars::{Control, Times};
 use out_tray::Tray;
 use switch_event::{Config, Outcome};
+use table_defs::Item;
 use wire_core::Mac;
+use wire_defs::PAE_GROUP;
 
 impl Core {
     // The link of a port comes up or goes down.

@@ -17,12 +17,12 @@ ghost use Rattle.control_core.specs.Acts.{MayAct};
 use crate::roll::Roster;
 use crate::state::Core;
 use arrayvec::ArrayVec;
-use table_defs::Item;
 use dynauth_server::{Action, Judged, client_place, judge, reply};
 use out_tray::{Sent, Tray};
 use radius_defs::Timeout;
 use radius_packet::parse;
 use switch_event::Outcome;
+use table_defs::Item;
 use wire_core::Addr;
 
 impl Core {

@@ -15,9 +15,9 @@ ghost use Rattle.control_core.specs.Notes.{Notes};
 
 use crate::state::Core;
 use arrayvec::ArrayVec;
-use table_defs::Item;
 use host_sessions::port_address;
 use switch_event::Config;
+use table_defs::Item;
 use wire_core::Mac;
 
 impl Core {

@@ -16,9 +16,9 @@ ghost use Rattle.control_core.specs.Passing.{MayPass, PassesIdly};
 use crate::rights::note;
 use crate::state::Core;
 use arrayvec::ArrayVec;
-use table_defs::Item;
 use out_tray::Tray;
 use switch_event::Outcome;
+use table_defs::Item;
 
 impl Core {
     // A second goes by: for the clock, for guests, and for each session that there is.

@@ -13,7 +13,6 @@ ghost use Rattle.control_core.specs.Does.{Turns};
 
 use crate::copies::{copy_kept, opened_kept};
 use arrayvec::ArrayVec;
-use table_defs::Item;
 use authenticator::{Authenticator, copied_config};
 use dup_cache::Kept;
 use host_sessions::Sessions;
@@ -21,6 +20,7 @@ use out_tray::Tray;
 use std::alloc::{AllocError, Global};
 use switch_event::{Config, Event, Outcome};
 use switch_ports::Ports;
+use table_defs::Item;
 
 /// The sequential authenticator.
 #[derive(Drop)]

@@ -3,8 +3,8 @@ ghost use Rattle.std.specs.Prelude.{◌≡◌, ◌+◌, ◌≤◌, ◌++◌, len
 ghost use Rattle.std.specs.Fmt.{decimal};
 ghost use Rattle.day_load.specs.Summary.{summary_text};
 
-use wire_core::append;
 use arrayvec::ArrayVec;
+use wire_core::append;
 
 /// What a day came to.
 #[derive(Clone, Copy, Debug, PartialEq, Eq)]

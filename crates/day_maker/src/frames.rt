@@ -4,10 +4,10 @@ ghost use Rattle.arrayvec.specs.ArrayVec.{array_vec_len};
 ghost use Rattle.wire_defs.specs.Eapol.{eapol_text};
 ghost use Rattle.day_defs.specs.Office as office;
 
-use wire_defs::{PAE_GROUP, ethertype};
 use arrayvec::ArrayVec;
 use day_defs::PORTS;
 use wire_core::{Mac, append, two_octets};
+use wire_defs::{PAE_GROUP, ethertype};
 
 // A station beyond the switch, and the type of what is sent to it: IPv4.
 const FAR_STATION: Mac = Mac([0x02, 0, 0, 0x0f, 0xff, 0xff]);
@@ -39,7 +39,13 @@ pub fn address_of_host(host: u8) -> Mac
 pub fn start_frame(host: u8, out: &mut ArrayVec<u8, 1518>)
     ensures { out.new.items ≡ office.start_frame host }
 {
-    eth_frame::write_plain(Mac(PAE_GROUP), address_of_host(host), ethertype::EAPOL, &START, out);
+    eth_frame::write_plain(
+        Mac(PAE_GROUP),
+        address_of_host(host),
+        ethertype::EAPOL,
+        &START,
+        out,
+    );
 }
 
 /// Replaces `out` by the Response in which a host gives its identity, to the Request of this identifier.

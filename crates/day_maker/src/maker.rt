@@ -10,17 +10,17 @@ ghost use Rattle.wire_defs.specs.Ethernet.{is_control};
 ghost use Rattle.day_maker.specs.Hearing.{note_of};
 ghost use Rattle.day_maker.specs.Making.{Stands, Adds, Turned, TurnsFew, Makes};
 
-use switch_event::limit::SESSIONS;
 use crate::accept::accept;
 use crate::frames::{data_frame, port_of_host, response_frame, start_frame};
 use crate::notes::{Note, blank_notes, hear_all};
 use arrayvec::ArrayVec;
-use table_defs::Item;
 use authenticator::Authenticator;
 use event_record::{Octets, Record, TraceRecord};
 use out_tray::Tray;
 use std::alloc::{AllocError, Global};
 use switch_event::Config;
+use switch_event::limit::SESSIONS;
+use table_defs::Item;
 
 // The records of a day come on the first lane.
 const LANE: u8 = 1;

@@ -9,8 +9,8 @@ ghost use Rattle.day_maker.specs.Making.{Stands, Makes};
 use crate::maker::DayMaker;
 use authenticator::Authenticator;
 use day_defs::{FRAMES_AN_HOUR, PORTS, Phase, SECONDS_A_FRAME};
-use std::alloc::{AllocError, Global};
 use event_record::TraceRecord;
+use std::alloc::{AllocError, Global};
 
 impl<A: Authenticator + Drop> DayMaker<A> {
     /// Adds the records of a phase. There must be room for them in a history. `AllocError`: there is

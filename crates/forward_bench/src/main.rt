@@ -10,7 +10,6 @@ use arrayvec::ArrayVec;
 use auth_journal::Journal;
 use auth_publish::{Publisher, Viewer, open};
 use auth_table::{Decision, absorb, decide, opening};
-use table_defs::Item;
 use event_record::MOST_EVENTS;
 use forward_worker::Worker;
 use machine_vars::Control;
@@ -18,6 +17,7 @@ use std::alloc::{AllocError, Global};
 use std::env;
 use std::sync::Wait;
 use switch_event::{Config, Event, PortConf};
+use table_defs::Item;
 use wire_core::Mac;
 
 // Where a trace has as many events as there may be, a line of it has 64 octets, which is room for a frame of 27.

@@ -7,10 +7,9 @@ ghost use Rattle.switch_defs.specs.Switch.{Port, State, own_address};
 ghost use Rattle.switch_defs.specs.Turn.{frame_case, eapol_case, eap_case, eapol_reason as eapol_reason_lem, eap_reason as eap_reason_lem};
 ghost use Rattle.host_frames.specs.Heard.{case_of, IsShort};
 
-use wire_defs::PAE_GROUP;
 use switch_event::FrameDrop;
 use wire_core::Mac;
-use wire_defs::{EapDrop, EapolDrop, Kind};
+use wire_defs::{EapDrop, EapolDrop, Kind, PAE_GROUP};
 
 // The code of a Response (RFC 3748, 4.1).
 const RESPONSE: u8 = 2;

@@ -68,9 +68,15 @@ fn a_start_a_logoff_and_a_response_are_heard(rt: HostRuntime) -> Result<(), Fail
 #[test]
 fn each_line_comes_before_the_next(rt: HostRuntime) -> Result<(), Fail> {
     let elsewhere = frame([2, 0, 0, 1, 1, 2], GROUP, &[1], rt)?;
-    assert_eq!(rt; hear(elsewhere.as_slice(), false), Some(Err(FrameDrop::Elsewhere)));
+    assert_eq!(rt;
+        hear(elsewhere.as_slice(), false),
+        Some(Err(FrameDrop::Elsewhere))
+    );
     let group = frame(GROUP, GROUP, &[1], rt)?;
-    assert_eq!(rt; hear(group.as_slice(), false), Some(Err(FrameDrop::GroupSource)));
+    assert_eq!(rt;
+        hear(group.as_slice(), false),
+        Some(Err(FrameDrop::GroupSource))
+    );
     assert_eq!(rt; line(&[1], false, rt)?, 3);
     assert_eq!(rt; line(&[1, 3, 0], true, rt)?, 4);
     assert_eq!(rt; line(&[1, 3, 0, 0], true, rt)?, 5);

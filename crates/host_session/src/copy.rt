@@ -1,10 +1,10 @@
 ghost use Rattle.std.specs.Prelude.{◌≡◌};
 
-use wire_core::{copied, fill};
 use crate::session::Session;
 use arrayvec::ArrayVec;
 use session_table::CopyFrom;
 use typed_session::{Closed, Host};
+use wire_core::{copied, fill};
 
 impl CopyFrom for Session {
     fn copied(&self) -> Session {

@@ -4,9 +4,9 @@ ghost use Rattle.machine_defs.specs.Settling.{next};
 ghost use Rattle.machine_defs.specs.Settled.{Settled};
 ghost use Rattle.machine_defs.specs.Live.{Live, Ready, set, cleared, to_all, as_octets, Start, Logoff, Greeting, Packet, Challenge, Notice, Accept, Reject, Second, Change};
 
-use wire_defs::PAE_GROUP;
 use machine_vars::{Control, Vars};
 use wire_core::Mac;
+use wire_defs::PAE_GROUP;
 
 /// The host begins, or begins anew. To be settled.
 pub fn start(v: &mut Vars)

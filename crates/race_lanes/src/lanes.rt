@@ -13,6 +13,7 @@ ghost use Rattle.race_lanes.specs.Lanes.{Ran, Counted, LaneView, MayCome, IsFres
 use crate::records::{record_at, running_lane};
 use authenticator::Authenticator;
 use block_list::Blocks;
+use event_record::TraceRecord;
 use out_tray::Tray;
 use outside_core::Gate;
 use std::marker::Model;
@@ -21,7 +22,6 @@ use std::thread;
 use std::thread::Threads;
 use switch_book::{Answer, BookLock, Booked, JournalErr, LaneSeat, OpenBook};
 use switch_event::Event;
-use event_record::TraceRecord;
 
 /// What a lane has beside its seat, from phase to phase: its tray, and what it printed in the last
 /// phase.

@@ -12,5 +12,5 @@ mod race;
 mod records;
 mod workers;
 
-pub use race::Race;
 pub use event_record::TraceRecord;
+pub use race::Race;

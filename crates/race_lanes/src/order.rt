@@ -12,8 +12,8 @@ use crate::lanes::LaneOut;
 use crate::records::{record_at, running_lane, serving_worker};
 use crate::workers::WorkerJob;
 use block_list::Block;
-use std::alloc::{AllocError, Global};
 use event_record::TraceRecord;
+use std::alloc::{AllocError, Global};
 
 // What a lane printed next.
 fn next_said<'a>(outs: &'a [LaneOut], next: &mut Vec<usize>, lane: usize) -> Block<'a>

@@ -18,12 +18,12 @@ ghost use Rattle.race_lanes.specs.Workers.{Worked};
 use crate::lanes::{LaneJob, LaneOut, run_lanes};
 use crate::workers::{WorkerJob, run_workers};
 use authenticator::Authenticator;
+use event_record::TraceRecord;
 use outside_core::Gate;
 use std::alloc::Global;
 use std::sync::Wait;
 use std::thread::{Threads, join_mut};
 use switch_book::{Book, BookLock, Booked, LaneSeat, OpenBook};
-use event_record::TraceRecord;
 
 // Memory for the seats and jobs of a phase, reserved before the book is locked.
 struct Room<B: Booked> {

@@ -18,7 +18,6 @@ ghost use Rattle.race_lanes.specs.Workers.{IsFor, seen_by};
 ghost use Rattle.race_lanes.specs.Lines.{PhaseLines};
 ghost use Rattle.race_lanes.specs.Standing.{Stands};
 
-use switch_event::limit::SESSIONS;
 use crate::closing::{finish_all, tell_all};
 use crate::lanes::LaneOut;
 use crate::order::{any_failed, merge};
@@ -27,6 +26,7 @@ use crate::workers::WorkerJob;
 use auth_publish::Viewer;
 use authenticator::Authenticator;
 use block_list::Blocks;
+use event_record::TraceRecord;
 use forward_worker::Worker;
 use out_tray::Tray;
 use outside_core::Gate;
@@ -36,7 +36,7 @@ use std::sync::Wait;
 use std::thread::Threads;
 use switch_book::Book;
 use switch_event::Config;
-use event_record::TraceRecord;
+use switch_event::limit::SESSIONS;
 
 /// A book with its lanes and workers, between two phases. It is not Drop, since a book is not: end
 /// it by `end`, or by `give_up` where there is no memory.

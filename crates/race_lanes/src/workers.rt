@@ -10,12 +10,12 @@ ghost use Rattle.race_lanes.specs.Workers.{Heard, Hears, Worked};
 use crate::records::{record_at, serving_worker};
 use arrayvec::ArrayVec;
 use block_list::Blocks;
+use event_record::TraceRecord;
 use forward_worker::Worker;
 use outside_core::{Gate, Point, Who};
 use std::alloc::{AllocError, Global};
 use std::thread;
 use std::thread::Threads;
-use event_record::TraceRecord;
 
 /// A worker, and what it printed in the last phase.
 #[derive(Drop)]

@@ -8,6 +8,7 @@ use crate::parallel::InParallel;
 use authenticator::copied_config;
 use control_core::Core;
 use core::mem::replace;
+use event_record::TraceRecord;
 use outside_core::NoGate;
 use race_lanes::Race;
 use race_run::RunsPhases;
@@ -15,7 +16,6 @@ use std::alloc::{AllocError, Global};
 use std::sync::Wait;
 use std::thread::Threads;
 use switch_event::Config;
-use event_record::TraceRecord;
 
 impl InParallel {
     /// One that was not opened yet.

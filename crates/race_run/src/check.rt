@@ -9,7 +9,6 @@ ghost use Rattle.trace_defs.specs.Output.{line_feed};
 ghost use Rattle.race_run.specs.declared.ending.Ending.TheVariants.{ReadFault, WriteFault};
 ghost use Rattle.race_run.specs.Counts.{CountEnds};
 
-use wire_core::append;
 use crate::counter::Counter;
 use crate::ending::Ending;
 use crate::run::run_within;
@@ -19,6 +18,7 @@ use outside_text::write_whole;
 use std::alloc::Global;
 use std::sync::Wait;
 use std::thread::Threads;
+use wire_core::append;
 
 /// Reads a trace of at most `limit` octets and `room` control records, runs none, and writes `ok`,
 /// how many records there were, how many of them were control records, and a line feed. Where it

@@ -4,11 +4,11 @@ ghost use Rattle.history_defs.specs.Output.{controls_in};
 ghost use Rattle.trace_defs.specs.Entered.{entered_all};
 
 use crate::runs::RunsPhases;
+use event_record::TraceRecord;
 use std::alloc::{AllocError, Global};
 use std::sync::Wait;
 use std::thread::Threads;
 use switch_event::Config;
-use event_record::TraceRecord;
 
 /// Counts the records of phases, and gives no text for them.
 #[derive(Clone, Copy, Debug, Default, PartialEq, Eq)]

@@ -15,13 +15,13 @@ mod runs;
 pub use check::check_within;
 pub use counter::Counter;
 pub use ending::{Ending, status};
+pub use event_record::TraceRecord;
 pub use one_thread::OneThread;
 pub use outside_text::say;
 pub use refusal::{refusal_words, say_ending, status_words};
 pub use replay::replay_within;
 pub use run::run_within;
 pub use runs::RunsPhases;
-pub use event_record::TraceRecord;
 
 #[cfg(test)]
 mod tests;

@@ -1,12 +1,12 @@
 // The authenticator on one thread as what runs the phases of a trace.
 use crate::runs::RunsPhases;
 use authenticator::Authenticator;
+use event_record::TraceRecord;
 use sequential::Sequential;
 use std::alloc::{AllocError, Global};
 use std::sync::Wait;
 use std::thread::Threads;
 use switch_event::Config;
-use event_record::TraceRecord;
 
 /// Runs phases on the calling thread. Their text is the blocks of the records in order, with lane 1
 /// and the serials and fronts of record order.

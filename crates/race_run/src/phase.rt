@@ -11,13 +11,13 @@ ghost use Rattle.race_run.specs.Run.{IsSound, Steps, Halts, Joins, ended, given_
 use crate::ending::Ending;
 use crate::run::Run;
 use crate::runs::RunsPhases;
+use event_record::TraceRecord;
 use outside_core::{Failed, Sink};
 use outside_text::write_whole;
 use std::alloc::Global;
 use std::sync::Wait;
 use std::thread::Threads;
 use trace_lang::{Octets, Record};
-use event_record::TraceRecord;
 
 impl Run {
     /// Puts a control record into the open phase.

@@ -5,11 +5,11 @@ ghost use Rattle.trace_defs.specs.Reason.{reason_name as name_of};
 ghost use Rattle.outside_text.specs.Streams.{Says};
 ghost use Rattle.race_run.specs.Ending.{ending_text};
 
-use wire_core::append;
 use crate::ending::{Ending, status};
 use arrayvec::ArrayVec;
 use outside_core::Sink;
 use outside_text::say;
+use wire_core::append;
 
 /// Says how a run ended, as far as `err` takes it: the line that was refused and the reason, else
 /// the words of the status.

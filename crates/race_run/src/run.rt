@@ -11,6 +11,7 @@ ghost use Rattle.race_run.specs.Run.{IsStart, IsSound, OfLine, Steps, Halts, Tak
 
 use crate::ending::Ending;
 use crate::runs::RunsPhases;
+use event_record::TraceRecord;
 use outside_core::{Failed, Sink, Source};
 use outside_text::read_piece;
 use std::alloc::{AllocError, Global};
@@ -18,7 +19,6 @@ use std::sync::Wait;
 use std::thread::Threads;
 use trace_defs::MISSING;
 use trace_lang::{Config, Line, LineErr, Lines, read_line};
-use event_record::TraceRecord;
 
 // A line is asked for in pieces of at most so many octets.
 const PIECE: usize = 256;

@@ -6,11 +6,11 @@ ghost use Rattle.trace_defs.specs.Line.{Record};
 ghost use Rattle.trace_defs.specs.Entered.{entered_all};
 ghost use Rattle.race_run.specs.Runs.{MayRun, RanPhase};
 
+use event_record::TraceRecord;
 use std::alloc::{AllocError, Global};
 use std::sync::Wait;
 use std::thread::Threads;
 use trace_lang::Config;
-use event_record::TraceRecord;
 
 /// Runs one phase of records after another, and gives a text for each. It may start threads, and
 /// has joined them when a call returns.
