@@ -67,10 +67,12 @@ done
 
 certificates() {
     local subject="/O=try/CN="
-    openssl req -x509 -newkey rsa:2048 -nodes -days 2 -subj "${subject}ca" -keyout ca.key -out ca.pem
+    openssl req -x509 -newkey rsa:2048 -nodes -days 2 -subj "${subject}ca" \
+        -keyout ca.key -out ca.pem
     for name in server bob; do
         openssl req -newkey rsa:2048 -nodes -subj "$subject$name" -keyout $name.key -out $name.csr
-        openssl x509 -req -in $name.csr -CA ca.pem -CAkey ca.key -CAcreateserial -days 2 -out $name.pem
+        openssl x509 -req -in $name.csr -CA ca.pem -CAkey ca.key -CAcreateserial -days 2 \
+            -out $name.pem
     done
 } > openssl.log 2>&1
 certificates || missing "openssl makes no certificates: $(tail -1 openssl.log)"
@@ -106,7 +108,8 @@ login() {
 }
 login MD5 ""
 login PEAP "\tca_cert=\"$work/ca.pem\"\n\tphase2=\"auth=MSCHAPV2\"\n"
-login TLS "\tca_cert=\"$work/ca.pem\"\n\tclient_cert=\"$work/bob.pem\"\n\tprivate_key=\"$work/bob.key\"\n"
+bob="\tclient_cert=\"$work/bob.pem\"\n\tprivate_key=\"$work/bob.key\"\n"
+login TLS "\tca_cert=\"$work/ca.pem\"\n$bob"
 
 cat > frame.py <<'PYTHON'
 """A data frame of the host goes in on h1; what is the VLAN that it has on the uplink?"""
@@ -146,8 +149,15 @@ sessions
 
 kill $bridge
 wait $bridge
-grep -q "status 0" bridge.log || { echo "NOT SEEN: serve ends with status 0"; cat bridge.log; failed=1; }
-"$program" replay < log.1 > again 2> replay.err || { echo "NOT SEEN: replay ends with status 0"; failed=1; }
+if ! grep -q "status 0" bridge.log; then
+    echo "NOT SEEN: serve ends with status 0"
+    cat bridge.log
+    failed=1
+fi
+if ! "$program" replay < log.1 > again 2> replay.err; then
+    echo "NOT SEEN: replay ends with status 0"
+    failed=1
+fi
 if grep '^# ' log.1 | cut -c 3- | cmp -s - again; then echo "seen: replay of the log is the same"
 else echo "NOT SEEN: replay of the log is the same"; failed=1; fi
 [ $failed = 0 ] && echo "all was seen"
