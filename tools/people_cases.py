@@ -136,7 +136,8 @@ def sessions_are_those_of_the_program(program):
             decided += record.outcome in ("drop unauthorised",) or bool(record.session)
         mistaken += table.mistaken
     # Not all that ends a session is printed: it may be over in silence. Its next frame tells.
-    need(decided > 800 and mistaken <= 2, f"{mistaken} of {decided} decisions were foreseen wrongly")
+    right = decided > 800 and mistaken <= 2
+    need(right, f"{mistaken} of {decided} decisions were foreseen wrongly")
 
 
 def a_story_is_told(program):
@@ -192,8 +193,9 @@ def a_page_stands_in_a_browser(program):
         need("://" not in text, "the page names something on a network")
         with open(at, "w", encoding="utf-8") as file:
             file.write(text.replace("</body>", probe + "</body>"))
-        words = ["chromium", "--headless", "--no-sandbox", "--disable-gpu", "--window-size=1400,900",
-                 f"--user-data-dir={folder}/profile", "--dump-dom", "file://" + at]
+        words = ["chromium", "--headless", "--no-sandbox", "--disable-gpu",
+                 "--window-size=1400,900", f"--user-data-dir={folder}/profile", "--dump-dom",
+                 "file://" + at]
         ran = subprocess.run(words, capture_output=True, timeout=SECONDS)
         title = re.search(rb"<title>(.*?)</title>", ran.stdout)
         if title is None:
