@@ -178,7 +178,8 @@ class Bridge:
     def settings(self):
         """The settings of a run, with a fresh seed."""
         with open(self.options.settings, encoding="ascii") as file:
-            lines = [x for x in file.read().split("\n") if x.split()[:1] not in (["begin"], ["seed"])]
+            lines = file.read().split("\n")
+        lines = [x for x in lines if x.split()[:1] not in (["begin"], ["seed"])]
         return "\n".join([*lines, f"seed {os.urandom(32).hex()}", "begin", ""]).encode()
 
     def begin(self):

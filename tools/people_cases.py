@@ -15,6 +15,7 @@ import json
 import os
 import re
 import shutil
+import socket
 import subprocess
 import sys
 import tempfile
@@ -135,7 +136,8 @@ def sessions_are_those_of_the_program(program):
             decided += record.outcome in ("drop unauthorised",) or bool(record.session)
         mistaken += table.mistaken
     # Not all that ends a session is printed: it may be over in silence. Its next frame tells.
-    need(decided > 800 and mistaken <= 2, f"{mistaken} of {decided} decisions were foreseen wrongly")
+    right = decided > 800 and mistaken <= 2
+    need(right, f"{mistaken} of {decided} decisions were foreseen wrongly")
 
 
 def a_story_is_told(program):
@@ -191,8 +193,9 @@ def a_page_stands_in_a_browser(program):
         need("://" not in text, "the page names something on a network")
         with open(at, "w", encoding="utf-8") as file:
             file.write(text.replace("</body>", probe + "</body>"))
-        words = ["chromium", "--headless", "--no-sandbox", "--disable-gpu", "--window-size=1400,900",
-                 f"--user-data-dir={folder}/profile", "--dump-dom", "file://" + at]
+        words = ["chromium", "--headless", "--no-sandbox", "--disable-gpu",
+                 "--window-size=1400,900", f"--user-data-dir={folder}/profile", "--dump-dom",
+                 "file://" + at]
         ran = subprocess.run(words, capture_output=True, timeout=SECONDS)
         title = re.search(rb"<title>(.*?)</title>", ran.stdout)
         if title is None:
@@ -218,8 +221,9 @@ def a_log_is_a_capture(program):
         count = sum(re.match(r"(frame|radius|dyn|# [fry]) ", line) is not None
                     for line in log.decode().splitlines())
         need(said == f"{count} packets\n", f"{said!r} of {count}")
-        rows = tshark(at, "-d", "udp.port==50000,radius", "-T", "fields", "-e", "frame.comment", "-e", "_ws.expert.severity",
-                      "-e", "_ws.malformed", "-e", "radius.code")
+        fields = ("frame.comment", "_ws.expert.severity", "_ws.malformed", "radius.code")
+        rows = tshark(at, "-d", "udp.port==50000,radius", "-T", "fields",
+                      *(word for field in fields for word in ("-e", field)))
         need(len(rows) == count, f"tshark reads {len(rows)} packets of {count}")
         for row in rows:
             comment, severity, malformed, _ = row.split("\t")
@@ -264,10 +268,65 @@ def settings_are_made_and_explained(program):
             need(wanted in said.decode(), f"of {text!r} is said {said.decode()!r}")
 
 
+def stock_peers_log_in(program):
+    """peers/try.sh: three EAP methods, another VLAN, a Disconnect, the log replayed."""
+    ran = subprocess.run([os.path.join(run_cases.TOP, "peers", "try.sh"), program],
+                         capture_output=True, timeout=2 * SECONDS)
+    said = ran.stdout.decode(errors="replace")
+    if ran.returncode == 77:
+        raise Skipped(said.strip().removeprefix("try.sh: skipped, "))
+    need(ran.returncode == 0, "\n".join(x for x in said.splitlines() if "NOT SEEN" in x))
+
+
+def datagrams_are_relayed(_):
+    """The relay: each socket of `serve` reaches the server, each client comes as itself."""
+    try:
+        frames, first, listen = serve.free_ports()
+        requests = [serve.bound(first + k) for k in range(serve.ANSWER_SOCKETS)]
+    except OSError as cannot:
+        raise Skipped(f"no sockets ({cannot})") from cannot
+    server, switch, client, stranger = (socket.socket(socket.AF_INET, socket.SOCK_DGRAM)
+                                        for _ in range(4))
+    own = [*requests, server, switch, client, stranger]
+    for one, at in zip(own[4:], ("127.0.0.2", "127.0.0.1", "127.0.0.3", "127.0.0.4")):
+        one.settimeout(serve.SECONDS)
+        one.bind((at, 0))
+    at = ["{}:{}".format(*one.getsockname()) for one in own]
+    words = ["--server", at[4], "--listen", f"127.0.0.1:{listen}", "--sources", str(first),
+             "--dynamic", f"127.0.0.1:{frames}", "--client", "127.0.0.3=127.0.0.30",
+             "--serve", at[5]]
+    relay = subprocess.Popen([sys.executable, os.path.join(run_cases.TOP, "peers", "relay.py"),
+                              *words], stdout=subprocess.PIPE)
+    try:
+        need(relay.stdout.readline() == b"ready\n", "the relay is not ready")
+        for number, one in enumerate(requests):
+            for text in (b"first %d" % number, b"second %d" % number):
+                one.sendto(text, ("127.0.0.1", listen))
+        got = [server.recvfrom(99) for _ in range(8)]
+        need(len({sender for _, sender in got}) == 4, "the four sockets do not come as four")
+        for text, sender in got:
+            server.sendto(b"to " + text, sender)
+        for number, one in enumerate(requests):
+            back = {one.recvfrom(99)[0] for _ in range(2)}
+            need(back == {b"to first %d" % number, b"to second %d" % number}, f"back came {back}")
+        stranger.sendto(b"of a stranger", ("127.0.0.1", frames))
+        client.sendto(b"request", ("127.0.0.1", frames))
+        text, sender = switch.recvfrom(99)
+        need((text, sender[0]) == (b"request", "127.0.0.30"), f"{text} came from {sender}")
+        switch.sendto(b"reply", sender)
+        need(client.recvfrom(99) == (b"reply", ("127.0.0.1", frames)), "no reply to the client")
+    finally:
+        relay.terminate()
+        relay.wait()
+        relay.stdout.close()
+        for one in own:
+            one.close()
+
+
 CASES = (names_are_those_of_the_program, names_are_those_of_packets,
          sessions_are_those_of_the_program, a_story_is_told, counters_are_the_programs,
          a_page_stands_in_a_browser, a_log_is_a_capture,
-         settings_are_made_and_explained)
+         settings_are_made_and_explained, datagrams_are_relayed, stock_peers_log_in)
 
 
 def main():
