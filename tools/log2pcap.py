@@ -8,7 +8,6 @@ Needs scapy (Debian's package python3-scapy). EAPOL and data frames are packets 
 goes in UDP between the addresses of `nas`, `server` and the clients, sockets 0 to 3 of the switch
 as ports 50000 to 50003, dynamic requests to port 3799. Each packet has a comment: the port of the
 switch, the record and what became of it. A frame that came in and was dropped is there too.
-pcap2trace.py reads such captures back.
 """
 
 import argparse
