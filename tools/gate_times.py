@@ -4,9 +4,10 @@
     tools/gate_times.py              the gate over the whole repository
     tools/gate_times.py NAME ..      over these crates and those below them
 
-While `rt ci` runs, the processor time and the memory of each of its processes are read from /proc. What a run
-takes from its store of earlier proofs costs nothing and leaves its row as it was; on a machine where the gate
-never ran each row is new. Ends with the status of the gate, and prints what it printed.
+While `rt ci` runs, the processor time and the memory of each of its processes are read from /proc.
+What a run takes from its store of earlier proofs costs nothing and leaves its row as it was; on a
+machine where the gate never ran each row is new. Ends with the status of the gate, and prints what
+it printed.
 """
 import os
 import re
@@ -56,10 +57,11 @@ class Watch(threading.Thread):
             self.seen[pid, fields[19]] = (crate, kind, place, seconds, gigabytes)
 
     def rows(self):
-        """For each crate the seconds of its own proof, of its tests, of its edits, of the dearest, and gigabytes."""
+        """For each crate the seconds of its proof, its tests, its edits and the dearest, and GB."""
         rows = {}
         for crate, kind, _, seconds, gigabytes in self.seen.values():
-            row = rows.setdefault(crate, {"own": 0, "tests": 0, "edits": 0, "dearest": 0, "memory": 0})
+            kinds = ("own", "tests", "edits", "dearest", "memory")
+            row = rows.setdefault(crate, dict.fromkeys(kinds, 0))
             row[kind] += seconds
             row["memory"] = max(row["memory"], gigabytes)
             if kind == "edits":
@@ -120,7 +122,8 @@ def main(names):
     table, after = rest.split(END)
     PAGE.write_text(before + BEGIN + new_table(table, watch.rows()) + END + after)
     spent = sum(seconds for *_, seconds, _ in watch.seen.values())
-    print(f"{spent / 60:.0f} processor minutes, {(time.time() - begun) / 60:.0f} on the clock, status {status}")
+    clock = time.time() - begun
+    print(f"{spent / 60:.0f} processor minutes, {clock / 60:.0f} on the clock, status {status}")
     return status
 
 
